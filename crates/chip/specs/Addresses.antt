@@ -1,0 +1,13 @@
+-- Which hardware addresses a chip can have (01, number 2).
+use Prim.Native.Nat.{ℕ}
+use mathlib.Core.Bool.{Bool, not, _&&_, cond}
+use lib.Dec.{leb, eqb}
+use Rattle.chip.specs.Kinds.{isDriver}
+use Rattle.chip.specs.declared.Chip.{Chip}
+
+-- drivers: 7 bits, and neither 3 (the software reset call) nor 112; blinkers: the pins A2..A0
+abbrev pub addressAllowed : Chip → ℕ → Bool
+addressAllowed chip address =
+    cond (isDriver chip)
+    (not (eqb address 3) && not (eqb address 112) && leb address 127)
+    (leb address 7)

@@ -1,0 +1,71 @@
+-- The register maps (01, "Register maps"). The drivers' is one map over the number of outputs n: 16 and 8 give the two columns of 01's table (`Promises`).
+use Prim.Native.Nat.{ℕ, _+_, _/_, _%_}
+use mathlib.Core.Bool.{Bool, false, _&&_, cond}
+use lib.Dec.{leb, ltb}
+use Rattle.chip.specs.Kinds.{isDriver, outputsOf}
+use Rattle.chip.specs.declared.Chip.{Chip}
+use Rattle.chip.specs.declared.RegisterMap.{RegisterMap}
+
+abbrev pub mode1 : ℕ
+mode1 = 0
+
+abbrev pub mode2 : ℕ
+mode2 = 1
+
+-- PWM0; the others follow it
+abbrev pub pwm0 : ℕ
+pwm0 = 2
+
+abbrev pub grppwm : ℕ → ℕ
+grppwm n = n + 2
+
+abbrev pub grpfreq : ℕ → ℕ
+grpfreq n = n + 3
+
+-- LEDOUT0, with the bits of outputs 0 to 3
+abbrev pub ledout0 : ℕ → ℕ
+ledout0 n = n + 4
+
+-- SUBADR1; SUBADR2 and SUBADR3 follow it
+abbrev pub subadr1 : ℕ → ℕ
+subadr1 n = n + 4 + n / 4
+
+abbrev pub allcalladr : ℕ → ℕ
+allcalladr n = n + 7 + n / 4
+
+abbrev pub registerMap : ℕ → RegisterMap
+registerMap n =
+    record {
+      grppwm = grppwm n;
+      grpfreq = grpfreq n;
+      ledout0 = ledout0 n;
+      subadr1 = subadr1 n;
+      allcalladr = allcalladr n;
+    }
+
+-- the blinkers' registers
+abbrev pub input : ℕ
+input = 0
+
+-- PSC0 and PWM0; PSC1 and PWM1 are two further
+abbrev pub psc0 : ℕ
+psc0 = 1
+
+abbrev pub blinkPwm0 : ℕ
+blinkPwm0 = 2
+
+-- LS0, with the bits of outputs 0 to 3; LS1 follows it
+abbrev pub ls0 : ℕ
+ls0 = 5
+
+-- the chip's last register
+abbrev pub lastRegister : Chip → ℕ
+lastRegister chip = cond (isDriver chip) (allcalladr (outputsOf chip)) 6
+
+-- the register that a control byte points at
+abbrev pub pointed : Chip → ℕ → ℕ
+pointed chip control = cond (isDriver chip) (control % 32) (control % 8)
+
+-- PWM0 through LEDOUT of a driver, which it holds as written and as in effect
+abbrev pub isBuffered : Chip → ℕ → Bool
+isBuffered chip r = cond (isDriver chip) (leb pwm0 r && ltb r (subadr1 (outputsOf chip))) false
