@@ -13,7 +13,7 @@ option control = control / 32
 
 -- legal options are 000 and 100 to 111
 abbrev pub driverLegal : ℕ → ℕ → Bool
-driverLegal n control = (eqb (option control) 0 || leb 4 (option control)) && leb (control % 32) (allcalladr n)
+driverLegal n control = (eqb (option control) 0 || leb 4 (option control) && leb (option control) 7) && leb (control % 32) (allcalladr n)
 
 -- the first and the last register of an option: 101 the PWMs, 110 GRPPWM and GRPFREQ, 111 PWM0 to GRPFREQ, any other all
 abbrev pub optionFirst : ℕ → ℕ → ℕ

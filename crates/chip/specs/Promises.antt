@@ -1,13 +1,17 @@
 -- What the definitions of this crate come to: 01's tables as they are printed, and that the pointer never leaves the chip's registers.
 use mathlib.Core.Path.{_≡_, refl}
+use mathlib.Core.Logic.{⊎-elim}
 use mathlib.Core.Bool.{Bool, true, false, not, _&&_, _||_, Bool·beq}
 use mathlib.Core.List.{List, [], _∷_}
-use Prim.Native.Nat.{ℕ, _<_, _*_}
-use lib.Dec.{T, leb}
+use Prim.Native.Nat.{ℕ, _/_, _%_, _<_}
+use native.Mathlib.Omega.{arith}
+use lib.Dec.{leb, eqb}
+use borrow.Author.Tests.{eqb-true, leb-true}
 use Rattle.chip.specs.Kinds.{numberOf, chipNumbered}
 use Rattle.chip.specs.Registers.{registerMap}
-use Rattle.chip.specs.Control.{controlLegal, controlMoved}
+use Rattle.chip.specs.Control.{option, controlLegal, controlMoved}
 use Rattle.chip.specs.Values.{resetControl}
+use Rattle.chip.specs.laws.Logic.{and-left, and-right, or-cases}
 use Rattle.chip.specs.laws.Table.{allBelow, at, same, follows}
 use Rattle.chip.specs.declared.Chip.{Chip}
 use Rattle.chip.specs.declared.Chip.the-variants.{Pca9635, Pca9634, Pca9531, Pca9551}
@@ -44,25 +48,50 @@ legal-listed chip control h = same (controlLegal chip control) (listedControl ch
     agrees : Chip → ℕ → Bool
     agrees chip x = Bool·beq (controlLegal chip x) (listedControl chip x)
 
-    all : (chip : Chip) → T (allBelow 256 (agrees chip))
-    all Pca9635 = tt
-    all Pca9634 = tt
-    all Pca9531 = tt
-    all Pca9551 = tt
+    all : (chip : Chip) → allBelow 256 (agrees chip) ≡ true
+    all Pca9635 = refl
+    all Pca9634 = refl
+    all Pca9531 = refl
+    all Pca9551 = refl
+
+-- a legal control byte is a byte
+pub legal-byte : (chip : Chip) (control : ℕ) → controlLegal chip control ≡ true → control < 256
+unfolding controlLegal
+legal-byte chip control = go chip
+  where
+    small : (o : ℕ) → (eqb o 0 || leb 4 o && leb o 7) ≡ true → o < 8
+    small o h =
+        ⊎-elim (λ z. omega (arith, eqb-true o 0 z)) (λ l. omega (arith, leb-true o 7 (and-right (leb 4 o) (leb o 7) l)))
+        (or-cases (eqb o 0) (leb 4 o && leb o 7) h)
+
+    driver : (last : ℕ) → ((eqb (option control) 0 || leb 4 (option control) && leb (option control) 7) && leb (control % 32) last) ≡ true → control < 256
+    driver last h =
+        omega (arith, small (option control) (and-left (eqb (option control) 0 || leb 4 (option control) && leb (option control) 7) (leb (control % 32) last) h))
+
+    blinker : (eqb (control / 32) 0 && eqb (control / 8 % 2) 0 && leb (control % 8) 6) ≡ true → control < 256
+    blinker h =
+        let low : (eqb (control / 32) 0 && eqb (control / 8 % 2) 0) ≡ true = and-left (eqb (control / 32) 0 && eqb (control / 8 % 2) 0) (leb (control % 8) 6) h in
+        omega (arith, eqb-true (control / 32) 0 (and-left (eqb (control / 32) 0) (eqb (control / 8 % 2) 0) low))
+
+    go : (chip : Chip) → controlLegal chip control ≡ true → control < 256
+    go Pca9635 h = driver 27 h
+    go Pca9634 h = driver 17 h
+    go Pca9531 h = blinker h
+    go Pca9551 h = blinker h
 
 -- from a legal control byte the pointer moves to a legal one
-pub moved-legal : (chip : Chip) (control : ℕ) → control < 256 → controlLegal chip control ≡ true → controlLegal chip (controlMoved chip control) ≡ true
+pub moved-legal : (chip : Chip) (control : ℕ) → controlLegal chip control ≡ true → controlLegal chip (controlMoved chip control) ≡ true
 unfolding controlLegal controlMoved
-moved-legal chip control h = follows (controlLegal chip control) (controlLegal chip (controlMoved chip control)) (at 256 (kept chip) (all chip) control h)
+moved-legal chip control h = follows (controlLegal chip control) (controlLegal chip (controlMoved chip control)) (at 256 (kept chip) (all chip) control (legal-byte chip control h)) h
   where
     kept : Chip → ℕ → Bool
     kept chip x = not (controlLegal chip x) || controlLegal chip (controlMoved chip x)
 
-    all : (chip : Chip) → T (allBelow 256 (kept chip))
-    all Pca9635 = tt
-    all Pca9634 = tt
-    all Pca9531 = tt
-    all Pca9551 = tt
+    all : (chip : Chip) → allBelow 256 (kept chip) ≡ true
+    all Pca9635 = refl
+    all Pca9634 = refl
+    all Pca9531 = refl
+    all Pca9551 = refl
 
 -- a chip's control byte is legal after reset
 pub reset-legal : (chip : Chip) → controlLegal chip (resetControl chip) ≡ true
