@@ -6,7 +6,7 @@ use Rattle.chip.specs.Kinds.{isDriver}
 use Rattle.chip.specs.declared.Chip.{Chip}
 
 -- drivers: 7 bits, and neither 3 (the software reset call) nor 112; blinkers: the pins A2..A0
-abbrev pub addressAllowed : Chip → ℕ → Bool
+unfoldable pub addressAllowed : Chip → ℕ → Bool
 addressAllowed chip address =
     cond (isDriver chip)
     (not (eqb address 3) && not (eqb address 112) && leb address 127)

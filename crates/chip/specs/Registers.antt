@@ -63,9 +63,12 @@ abbrev pub lastRegister : Chip → ℕ
 lastRegister chip = cond (isDriver chip) (allcalladr (outputsOf chip)) 6
 
 -- the register that a control byte points at
-abbrev pub pointed : Chip → ℕ → ℕ
+unfoldable pub pointed : Chip → ℕ → ℕ
 pointed chip control = cond (isDriver chip) (control % 32) (control % 8)
 
--- PWM0 through LEDOUT of a driver, which it holds as written and as in effect
-abbrev pub isBuffered : Chip → ℕ → Bool
-isBuffered chip r = cond (isDriver chip) (leb pwm0 r && ltb r (subadr1 (outputsOf chip))) false
+-- PWM0 through LEDOUT of a driver with n outputs, which it holds as written and as in effect
+abbrev pub inBuffer : ℕ → ℕ → Bool
+inBuffer n r = leb pwm0 r && ltb r (subadr1 n)
+
+unfoldable pub isBuffered : Chip → ℕ → Bool
+isBuffered chip r = cond (isDriver chip) (inBuffer (outputsOf chip) r) false

@@ -105,13 +105,13 @@ pub fn address_allowed(chip: Chip, address: u64) -> bool
 }
 
 // Whether the chip holds this register as written and as in effect.
-pub fn is_buffered(chip: Chip, register: u8) -> bool
+pub fn is_buffered(chip: Chip, register: usize) -> bool
     ensures { λ r. ⌜ r ≡ isBuffered chip register ⌝ }
 {
     if is_driver(chip) {
         let map = register_map(chip);
         if 2 <= register {
-            register < map.subadr1
+            register < map.subadr1 as usize
         } else {
             false
         }

@@ -98,7 +98,7 @@ pub fn read(chip: Chip, control: u8, byte: u8) -> u8
     ensures { λ r. ⌜ r ≡ readByte chip control byte ⌝ }
 {
     if crate::is_driver(chip) {
-        let register = control % 32;
+        let register = crate::control::register(chip, control);
         if register == 0 {
             byte % 32 + control / 32 * 32
         } else {

@@ -1,17 +1,17 @@
-use Rattle.chip.specs.Values.{readByte}
 use mathlib.Core.Path.{sym, _∙_}
 use borrow.Author.Tests.{eq-eqb, ne-eqb}
+use Rattle.chip.specs.Values.{readByte}
 use borrow.Author.Needs.{needs}
 use Rattle.chip.proofs.values.read.Statement.{statement}
 use Rattle.chip.proofs.values.read.Tie as tie
 
 returns : tie.Need-returns
 unfolding readByte
-returns c = simp (eq-eqb _ _ (c .if2 .taken), sym (c .before .before .is-driver .ensures) ∙ c .before .if1 .taken)
+returns c = simp (eq-eqb _ _ (sym (c .before .register .ensures) ∙ c .if2 .taken), sym (c .before .before .before .is-driver .ensures) ∙ c .before .before .if1 .taken)
 
 returns-2 : tie.Need-returns-2
 unfolding readByte
-returns-2 c = simp (c .writable-bits .ensures, ne-eqb _ _ (c .before .if2 .left), sym (c .before .before .before .is-driver .ensures) ∙ c .before .before .if1 .taken)
+returns-2 c = simp (c .writable-bits .ensures, c .before .before .register .ensures, ne-eqb _ _ (λ e. c .before .if2 .left (c .before .before .register .ensures ∙ e)), sym (c .before .before .before .before .is-driver .ensures) ∙ c .before .before .before .if1 .taken)
 
 returns-3 : tie.Need-returns-3
 unfolding readByte
@@ -21,6 +21,7 @@ pub read-spec : {M : Type 1} → statement M
 read-spec =
     tie.close
     (tie.spec
+    (λ c κs. search needs)
     (λ c κs. search needs)
     (λ c. search needs)
     (λ c. search needs)

@@ -1,0 +1,2 @@
+-- How the theorem of `Promises` and the contracts of `src/` are shown.
+pub mod Divisors

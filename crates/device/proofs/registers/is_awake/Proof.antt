@@ -1,0 +1,16 @@
+use mathlib.Core.Path.{sym, _∙_}
+use Rattle.device.specs.Registers.{isAwake}
+use borrow.Author.Needs.{needs}
+use Rattle.device.proofs.registers.is_awake.Statement.{statement}
+use Rattle.device.proofs.registers.is_awake.Tie as tie
+
+returns : tie.Need-returns
+unfolding isAwake
+returns c = simp (sym (c .before .before .is-driver .ensures) ∙ c .before .if1 .taken)
+
+returns-2 : tie.Need-returns-2
+unfolding isAwake
+returns-2 c = simp (sym (c .before .is-driver .ensures) ∙ c .if1 .left)
+
+pub is-awake-spec : {M : Type 1} → statement M
+is-awake-spec = tie.close (tie.spec (λ c κs. search needs) (λ c. search needs) returns returns-2)

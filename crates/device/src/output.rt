@@ -1,0 +1,203 @@
+// What an output follows, whether it is lit, for how many ticks, and the level of its pin.
+use crate::Device;
+use chip::Chip;
+use lamp::BlinkerMode;
+use lamp::BlinkerSteps;
+use lamp::DriverMode;
+use lamp::DriverTicks;
+ghost use mathlib.Core.Path.{_≡_};
+ghost use mathlib.Core.Bool.{cond};
+ghost use Prim.Native.Nat.{_^_, _<_, _≤_};
+ghost use Rattle.lamp.specs.Window.{countedTicks};
+ghost use Rattle.chip.specs.Kinds.{outputsOf};
+ghost use Rattle.device.specs.Output.{pairOf, driverOutput, blinkerMode, blinkerOutput, lampLit, litNow, litOf, undriven, disabledPin, driverPin, pinOf, inputBit, inputByte};
+
+fn pair(byte: u8, out: u8) -> u8
+    ensures { λ r. ⌜ r ≡ pairOf byte out ⌝ }
+{
+    let place = out % 4;
+    if place == 0 {
+        byte % 4
+    } else if place == 1 {
+        byte / 4 % 4
+    } else if place == 2 {
+        byte / 16 % 4
+    } else {
+        byte / 64 % 4
+    }
+}
+
+fn driver_output(d: Device, out: u8) -> DriverMode
+    ensures { λ r. ⌜ r ≡ driverOutput d (outputsOf (d .chip)) out ⌝ }
+{
+    let chip = d.chip;
+    let map = chip::register_map(chip);
+    let group = map.ledout0 as usize + out as usize / 4;
+    let ledout = pair(crate::registers::in_effect(d, group), out);
+    let pwm = crate::registers::in_effect(d, 2 + out as usize);
+    let grppwm = crate::registers::in_effect(d, map.grppwm as usize);
+    let grpfreq = crate::registers::in_effect(d, map.grpfreq as usize);
+    lamp::driver_mode(ledout, d.written[1] / 32 % 2 == 1, pwm, grppwm, grpfreq)
+}
+
+fn pca9531_mode(ls: u8, psc: u8, pwm: u8) -> BlinkerMode
+    ensures { λ r. ⌜ r ≡ blinkerMode Chip.Pca9531 ls psc pwm ⌝ }
+{
+    match ls {
+        0 => BlinkerMode::Off,
+        1 => BlinkerMode::On,
+        _ => BlinkerMode::LitBelow { psc: psc, pwm: pwm },
+    }
+}
+
+fn pca9551_mode(ls: u8, psc: u8, pwm: u8) -> BlinkerMode
+    ensures { λ r. ⌜ r ≡ blinkerMode Chip.Pca9551 ls psc pwm ⌝ }
+{
+    match ls {
+        0 => BlinkerMode::On,
+        1 => BlinkerMode::Off,
+        _ => BlinkerMode::LitFrom { psc: psc, pwm: pwm },
+    }
+}
+
+fn blinker_mode(chip: Chip, ls: u8, psc: u8, pwm: u8) -> BlinkerMode
+    ensures { λ r. ⌜ r ≡ blinkerMode chip ls psc pwm ⌝ }
+{
+    match chip {
+        Chip::Pca9635 => BlinkerMode::Off,
+        Chip::Pca9634 => BlinkerMode::Off,
+        Chip::Pca9531 => pca9531_mode(ls, psc, pwm),
+        Chip::Pca9551 => pca9551_mode(ls, psc, pwm),
+    }
+}
+
+fn blinker_output(d: Device, out: u8) -> BlinkerMode
+    ensures { λ r. ⌜ r ≡ blinkerOutput d out ⌝ }
+{
+    let chip = d.chip;
+    let written = d.written;
+    let ls = pair(crate::registers::at(written, 5 + out as usize / 4), out);
+    if ls == 3 {
+        blinker_mode(chip, ls, d.written[3], d.written[4])
+    } else {
+        blinker_mode(chip, ls, d.written[1], d.written[2])
+    }
+}
+
+pub fn is_lit(d: Device, out: u8) -> bool
+    ensures { λ r. ⌜ r ≡ litNow d out ⌝ }
+{
+    let chip = d.chip;
+    if chip::is_driver(chip) {
+        lamp::driver_lit(driver_output(d, out), DriverTicks(d.count))
+    } else {
+        lamp::blinker_lit(blinker_output(d, out), BlinkerSteps(d.count))
+    }
+}
+
+// The lit ticks of an awake device: each kind in its own unit.
+fn counted(d: Device, out: u8, ticks: u64) -> u64
+    ensures { λ r. ⌜ r ≡ countedTicks (lampLit d out) (d .count) ticks ⌝ }
+{
+    let chip = d.chip;
+    if chip::is_driver(chip) {
+        let lit = lamp::driver_lit_ticks(
+            driver_output(d, out),
+            DriverTicks(d.count),
+            DriverTicks(ticks),
+        );
+        lit.0
+    } else {
+        let lit = lamp::blinker_lit_steps(
+            blinker_output(d, out),
+            BlinkerSteps(d.count),
+            BlinkerSteps(ticks),
+        );
+        lit.0
+    }
+}
+
+pub fn lit(d: Device, out: u8, ticks: u64) -> u64
+    ensures { λ r. ⌜ r ≡ litOf d out ticks ⌝ }
+{
+    if crate::registers::is_awake(d) {
+        counted(d, out, ticks)
+    } else if is_lit(d, out) {
+        ticks
+    } else {
+        0
+    }
+}
+
+fn undriven(d: Device) -> u64
+    ensures { λ r. ⌜ r ≡ undriven d ⌝ }
+{
+    if d.written[1] / 4 % 2 == 1 { 1 } else { 2 }
+}
+
+fn disabled_pin(d: Device) -> u64
+    ensures { λ r. ⌜ r ≡ disabledPin d ⌝ }
+{
+    let outne = d.written[1] % 4;
+    if outne == 0 {
+        0
+    } else if outne == 1 {
+        undriven(d)
+    } else {
+        2
+    }
+}
+
+fn driver_pin(d: Device, lit: bool) -> u64
+    ensures { λ r. ⌜ r ≡ driverPin d lit ⌝ }
+{
+    if d.oe {
+        disabled_pin(d)
+    } else if d.written[1] / 16 % 2 == 1 {
+        if lit { undriven(d) } else { 0 }
+    } else {
+        if lit { 0 } else { undriven(d) }
+    }
+}
+
+// 0 low, 1 high, 2 high-Z.
+pub fn pin(d: Device, out: u8) -> u64
+    ensures { λ r. ⌜ r ≡ pinOf d out ⌝ }
+{
+    let chip = d.chip;
+    if chip::is_driver(chip) {
+        driver_pin(d, is_lit(d, out))
+    } else if is_lit(d, out) {
+        0
+    } else {
+        2
+    }
+}
+
+fn input_weight(d: Device, i: u8, weight: u16) -> u16
+    requires { ⌜ weight ≡ 2 ^ i ⌝ }
+    ensures { λ r. ⌜ r ≡ cond (inputBit d i) weight 0 ⌝ }
+{
+    if is_lit(d, i) {
+        0
+    } else if d.levels as u16 / weight % 2 == 1 {
+        weight
+    } else {
+        0
+    }
+}
+
+// INPUT of a blinker.
+pub fn input_byte(d: Device) -> u8
+    ensures { λ r. ⌜ r ≡ inputByte d ⌝ }
+{
+    let mut byte: u16 = 0;
+    let mut weight: u16 = 1;
+    let mut i: u8 = 0;
+    while i < 8 {
+        byte += input_weight(d, i, weight);
+        weight += weight;
+        i += 1;
+    }
+    byte as u8
+}

@@ -1,0 +1,16 @@
+-- `lamp::count::individual_window` meets its contract: a window is the difference of the counts at its ends.
+use native.Mathlib.Omega.{arith}
+use Rattle.lamp.specs.laws.Count.{window, individual-counts}
+use borrow.Author.Needs.{needs}
+use Rattle.lamp.proofs.count.individual_window.Statement.{statement}
+use Rattle.lamp.proofs.count.individual_window.Tie as tie
+
+sub-result : tie.Need-sub-result
+sub-result c = omega (arith, window (individual-counts {N = c .before .before .args .pwm} (omega arith)) (c .before .before .args .at) (c .before .before .args .ticks))
+
+returns : tie.Need-returns
+returns c = omega (arith, window (individual-counts {N = c .before .before .args .pwm} (omega arith)) (c .before .before .args .at) (c .before .before .args .ticks))
+
+pub individual-window-spec : {M : Type 1} → statement M
+individual-window-spec =
+    tie.close (tie.spec (λ c. search needs) (λ c κs. search needs) (λ c κs. search needs) sub-result returns)

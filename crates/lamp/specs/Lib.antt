@@ -1,0 +1,6 @@
+pub mod Window
+pub mod Driver
+pub mod Blinker
+pub mod Duty
+pub mod laws
+pub mod Promises
