@@ -1,12 +1,7 @@
 pub mod Fields
 pub mod Reset
 pub mod Registers
-pub mod Selection
-pub mod Write
-pub mod Put
 pub mod Output
-pub mod Read
-pub mod Stop
 pub mod Wait
 pub mod Blink
 pub mod WellFormed

@@ -5,15 +5,10 @@ ghost use Rattle.device.specs.Fields.{withStage, withOe, withLevels};
 ghost use Rattle.device.specs.Reset.{fresh, resetOf};
 
 pub mod output;
-pub mod put;
-pub mod read;
 pub mod record;
 pub mod registers;
-pub mod select;
 pub mod start;
-pub mod stop;
 pub mod wait;
-pub mod write;
 
 // What a device is doing in the message on the bus. The last three are the software reset call: 06h taken, then A5h, then 5Ah.
 pub enum Stage {

@@ -1,0 +1,7 @@
+pub mod Selection
+pub mod Write
+pub mod Put
+pub mod Read
+pub mod Stop
+pub mod laws
+pub mod Promises

@@ -1,0 +1,79 @@
+// What a device does at a get.
+use device::Device;
+use device::Stage;
+ghost use mathlib.Core.Path.{_≡_};
+ghost use Rattle.protocol.specs.Read.{isTalking, registerByte, pointedByte, talkOf, movedOn, gottenFrom};
+
+fn is_talking(stage: Stage) -> bool
+    ensures { λ r. ⌜ r ≡ isTalking stage ⌝ }
+{
+    match stage {
+        Stage::Unselected => false,
+        Stage::Control => false,
+        Stage::Data => false,
+        Stage::Talking => true,
+        Stage::ResetCall => false,
+        Stage::ResetFirst => false,
+        Stage::ResetBoth => false,
+    }
+}
+
+// A register other than INPUT as it reads.
+fn register_byte(d: Device) -> u8
+    ensures { λ r. ⌜ r ≡ registerByte d ⌝ }
+{
+    let chip = d.chip;
+    let written = d.written;
+    let at = chip::control::register(chip, d.control) as usize;
+    chip::values::read(chip, d.control, device::registers::at(written, at))
+}
+
+fn pointed_byte(d: Device) -> u8
+    ensures { λ r. ⌜ r ≡ pointedByte d ⌝ }
+{
+    let chip = d.chip;
+    if chip::is_driver(chip) {
+        register_byte(d)
+    } else if chip::control::register(chip, d.control) == 0 {
+        device::output::input_byte(d)
+    } else {
+        register_byte(d)
+    }
+}
+
+// What the device puts on the bus; all ones where it does not talk.
+pub fn talk(d: Device) -> u8
+    ensures { λ r. ⌜ r ≡ talkOf d ⌝ }
+{
+    let stage = d.stage;
+    if is_talking(stage) {
+        pointed_byte(d)
+    } else {
+        255
+    }
+}
+
+fn moved_on(d: Device) -> Device
+    ensures { λ r. ⌜ r ≡ movedOn d ⌝ }
+{
+    let chip = d.chip;
+    let stage = d.stage;
+    let mut next = d;
+    if is_talking(stage) {
+        next.control = chip::control::moved(chip, d.control);
+        next
+    } else {
+        d
+    }
+}
+
+// The device after a get with the master's ack.
+pub fn gotten(ack: bool, d: Device) -> Device
+    ensures { λ r. ⌜ r ≡ gottenFrom ack d ⌝ }
+{
+    if ack {
+        moved_on(d)
+    } else {
+        device::with_stage(moved_on(d), Stage::Unselected)
+    }
+}
