@@ -1,6 +1,6 @@
 -- Whatever happens on the bus leaves a well-formed record well formed, in the phase that the message then has.
 use mathlib.Core.Path.{_≡_, refl}
-use mathlib.Core.Bool.{Bool, true, false, _&&_, cond}
+use mathlib.Core.Bool.{Bool, true, false, _&&_, cond, false≢true}
 use Prim.Native.Nat.{ℕ, _/_, _%_}
 use lib.Dec.{leb, eqb}
 use Rattle.lamp.specs.Window.{countLimit}
@@ -23,6 +23,9 @@ use Rattle.protocol.specs.Selection.{startedOf, answers, stageAfter, pha
 use Rattle.protocol.specs.Write.{pointedAt, wakes, countAfter, storedIn, isCallByte, takenAt, takenBy}
 use Rattle.protocol.specs.Put.{heardBy}
 use Rattle.protocol.specs.Read.{isTalking, movedOn, gottenFrom, phaseAfterGet}
+use Rattle.protocol.specs.Signal.{takesPut, isReading, inTurn, phaseAfterPut, phaseAfterSignal, deviceAfter}
+use Rattle.protocol.specs.declared.Signal.{Signal}
+use Rattle.protocol.specs.declared.Signal.the-variants.{Start, Stop, Put, Get}
 use Rattle.protocol.specs.Stop.{committed, effectOfStop, tookReset, stoppedOf}
 
 -- ---- START
@@ -115,3 +118,26 @@ stopped-well d h =
     by-cases (WellIn P.Idle) (isDriver (d .chip) && tookReset (d .stage)) (resetOf d) (withStage (effectOfStop d) Unselected)
     (λ e. reset-well P.Idle d h)
     (λ e. well P.Idle (withStage (effectOfStop d) Unselected) (ok (effectOfStop d) (effect-ok d h)) refl)
+
+-- ---- any signal that is in turn
+
+put-well : (p : Phase) (byte : ℕ) (d : Device) → takesPut p ≡ true → WellIn p d → WellIn (phaseAfterPut p byte) (heardBy p byte d)
+put-well P.Address byte d t h = addressed-well byte d (well-formed-ok P.Address d h)
+put-well P.Write byte d t h = written-well byte d h
+put-well P.Idle byte d t h = absurd (false≢true t)
+put-well P.Read byte d t h = absurd (false≢true t)
+put-well P.Ended byte d t h = absurd (false≢true t)
+
+get-well : (p : Phase) (ack : Bool) (d : Device) → isReading p ≡ true → WellIn p d → WellIn (phaseAfterGet ack) (gottenFrom ack d)
+get-well P.Read ack d t h = gotten-well ack d h
+get-well P.Idle ack d t h = absurd (false≢true t)
+get-well P.Address ack d t h = absurd (false≢true t)
+get-well P.Write ack d t h = absurd (false≢true t)
+get-well P.Ended ack d t h = absurd (false≢true t)
+
+pub signal-well : (p : Phase) (s : Signal) (d : Device) → inTurn p s ≡ true → wellFormed p d ≡ true → wellFormed (phaseAfterSignal p s) (deviceAfter p s d) ≡ true
+unfolding phaseAfterSignal deviceAfter
+signal-well p Start d t h = started-well d (well-formed-ok p d h)
+signal-well p Stop d t h = stopped-well d (well-formed-ok p d h)
+signal-well p (Put byte) d t h = put-well p byte d t h
+signal-well p (Get ack) d t h = get-well p ack d t h

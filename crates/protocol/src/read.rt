@@ -1,8 +1,9 @@
 // What a device does at a get.
 use device::Device;
+use device::Phase;
 use device::Stage;
 ghost use mathlib.Core.Path.{_≡_};
-ghost use Rattle.protocol.specs.Read.{isTalking, registerByte, pointedByte, talkOf, movedOn, gottenFrom};
+ghost use Rattle.protocol.specs.Read.{isTalking, registerByte, pointedByte, talkOf, movedOn, gottenFrom, phaseAfterGet};
 
 fn is_talking(stage: Stage) -> bool
     ensures { λ r. ⌜ r ≡ isTalking stage ⌝ }
@@ -76,4 +77,11 @@ pub fn gotten(ack: bool, d: Device) -> Device
     } else {
         device::with_stage(moved_on(d), Stage::Unselected)
     }
+}
+
+// A get with ack 0 ends the read.
+pub fn phase_after(ack: bool) -> Phase
+    ensures { λ r. ⌜ r ≡ phaseAfterGet ack ⌝ }
+{
+    if ack { Phase::Read } else { Phase::Ended }
 }
