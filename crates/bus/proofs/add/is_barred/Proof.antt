@@ -1,0 +1,10 @@
+use borrow.Author.Needs.{needs}
+use Rattle.bus.proofs.add.is_barred.Statement.{statement}
+use Rattle.bus.proofs.add.is_barred.Tie as tie
+
+returns : tie.Need-returns
+returns c = simp (c .address-allowed .ensures, c .before .before .found .given .1)
+
+pub is-barred-spec : {M : Type 1} → statement M
+is-barred-spec =
+    tie.close (tie.spec (λ c. search needs) (λ c κs. search needs) (λ c. search needs) returns (λ c. search needs))

@@ -1,0 +1,6 @@
+pub mod First
+pub mod Refusals
+pub mod Bus
+pub mod Replies
+pub mod Events
+pub mod laws

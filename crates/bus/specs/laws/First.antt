@@ -1,0 +1,172 @@
+-- The first n elements of a list, for any element, function and test: what a loop over them starts with, what a turn adds, what it ends with; and what keeps a test of all.
+use Prim.Native.Nat.{ℕ, zero, suc, _+_, _*_, _^_, _≤_, _<_}
+use mathlib.Core.Path.{_≡_, refl, sym, ap}
+use mathlib.Core.Bool.{Bool, true, false, _&&_, cond}
+use mathlib.Core.List.{List, [], _∷_}
+use native.Mathlib.Numerals.{add-one}
+use native.Mathlib.Nat.{le-of-suc-le-suc, mul-one, add-mul, pow-suc, mul-assoc, one-mul}
+use native.Mathlib.Omega.{arith}
+use lib.Bits.{bitAnd}
+use lib.ListN.{length, take, getD, set}
+use lib.Pow.{pow-mono}
+use Rattle.chip.specs.laws.Logic.{and-left, and-right}
+use Rattle.bus.specs.First.{mapFirst, allFirst, maskFirst, andFirst, all, mask, andOf}
+
+-- an element that is there does not depend on what would stand for a missing one
+pub getD-there : {A : Type 0} (y z : A) (l : List A) (i : ℕ) → i < length l → getD l i y ≡ getD l i z
+getD-there y z [] i h = absurd (omega arith)
+getD-there y z (x ∷ l) zero h = refl
+getD-there y z (x ∷ l) (suc i) h = getD-there y z l i (le-of-suc-le-suc h)
+
+-- ---- a function at each
+
+module _ {A : Type 0} (f : A → A) where
+  pub map-none : (l : List A) → l ≡ mapFirst 0 f l
+  unfolding mapFirst
+  map-none l = refl
+
+  map-suc : (z : A) (l : List A) (i : ℕ) → set (mapFirst i f l) i (f (getD (mapFirst i f l) i z)) ≡ mapFirst (suc i) f l
+  unfolding mapFirst
+  map-suc z [] zero = refl
+  map-suc z [] (suc i) = refl
+  map-suc z (x ∷ l) zero = refl
+  map-suc z (x ∷ l) (suc i) = ap (λ (t : List A). f x ∷ t) (map-suc z l i)
+
+  -- a turn replaces the element at i of the list as it stands by f of it
+  pub map-more : (z : A) (l now : List A) (i : ℕ) (y : A) → now ≡ mapFirst i f l → y ≡ f (getD now i z) → set now i y ≡ mapFirst (i + 1) f l
+  map-more z l now i y e q = rw (add-one, q, e) (map-suc z l i)
+
+  pub map-done : (l now : List A) (i n : ℕ) → i ≤ n → n ≤ i → now ≡ mapFirst i f l → now ≡ mapFirst n f l
+  map-done l now i n h k e = let q : n ≡ i = omega arith in rw q e
+
+-- ---- a test of each
+
+module _ {A : Type 0} (p : A → Bool) where
+  pub all-none : (l : List A) → allFirst 0 p l ≡ true
+  unfolding allFirst
+  all-none l = refl
+
+  all-suc : (z : A) (l : List A) (i : ℕ) → allFirst i p l ≡ true → p (getD l i z) ≡ true → allFirst (suc i) p l ≡ true
+  unfolding allFirst
+  all-suc z [] zero e q = refl
+  all-suc z [] (suc i) e q = refl
+  all-suc z (x ∷ l) zero e q = rw q
+  all-suc z (x ∷ l) (suc i) e q =
+      rw (and-left (p x) (all p (take i l)) e) (all-suc z l i (and-right (p x) (all p (take i l)) e) q)
+
+  pub all-more : (z : A) (l : List A) (i : ℕ) → allFirst i p l ≡ true → p (getD l i z) ≡ true → allFirst (i + 1) p l ≡ true
+  all-more z l i e q = rw add-one (all-suc z l i e q)
+
+  pub all-done : (l : List A) (i n : ℕ) → i ≤ n → n ≤ i → allFirst i p l ≡ true → true ≡ allFirst n p l
+  all-done l i n h k e = let q : n ≡ i = omega arith in rw q (sym e)
+
+  -- what holds of all, and of whatever stands for a missing one, holds of each
+  pub all-at : (z : A) (l : List A) (i n : ℕ) → i < n → p z ≡ true → allFirst n p l ≡ true → p (getD l i z) ≡ true
+  unfolding allFirst
+  all-at z [] i n h k e = k
+  all-at z (x ∷ l) i zero h k e = absurd (omega arith)
+  all-at z (x ∷ l) zero (suc n) h k e = and-left (p x) (all p (take n l)) e
+  all-at z (x ∷ l) (suc i) (suc n) h k e = all-at z l i n (le-of-suc-le-suc h) k (and-right (p x) (all p (take n l)) e)
+
+  fails-suc : (z : A) (l : List A) (i n : ℕ) → i < n → i < length l → p (getD l i z) ≡ false → allFirst n p l ≡ false
+  unfolding allFirst
+  fails-suc z [] i n h k e = absurd (omega arith)
+  fails-suc z (x ∷ l) i zero h k e = absurd (omega arith)
+  fails-suc z (x ∷ l) zero (suc n) h k e = rw e
+  fails-suc z (x ∷ l) (suc i) (suc n) h k e = go (p x) (fails-suc z l i n (le-of-suc-le-suc h) (le-of-suc-le-suc k) e)
+    where
+      go : (b : Bool) → all p (take n l) ≡ false → (b && all p (take n l)) ≡ false
+      go true q = q
+      go false q = refl
+
+  -- where one fails, not all hold
+  pub all-fails : (z : A) (l : List A) (i n : ℕ) → i < n → i < length l → p (getD l i z) ≡ false → false ≡ allFirst n p l
+  all-fails z l i n h k e = sym (fails-suc z l i n h k e)
+
+  -- one more element that passes, put in at any place or at the next
+  pub all-set : (l : List A) (i n : ℕ) (y : A) → p y ≡ true → allFirst n p l ≡ true → allFirst n p (set l i y) ≡ true
+  unfolding allFirst
+  all-set [] i n y q e = e
+  all-set (x ∷ l) i zero y q e = refl
+  all-set (x ∷ l) zero (suc n) y q e = rw q (and-right (p x) (all p (take n l)) e)
+  all-set (x ∷ l) (suc i) (suc n) y q e =
+      rw (and-left (p x) (all p (take n l)) e) (all-set l i n y q (and-right (p x) (all p (take n l)) e))
+
+  pub all-added : (l : List A) (n : ℕ) (y : A) → p y ≡ true → allFirst n p l ≡ true → allFirst (suc n) p (set l n y) ≡ true
+  unfolding allFirst
+  all-added [] n y q e = refl
+  all-added (x ∷ l) zero y q e = rw q
+  all-added (x ∷ l) (suc n) y q e =
+      rw (and-left (p x) (all p (take n l)) e) (all-added l n y q (and-right (p x) (all p (take n l)) e))
+
+-- a function that takes what passes one test to what passes another
+pub all-mapped : {A : Type 0} (p q : A → Bool) (f : A → A) → ((x : A) → p x ≡ true → q (f x) ≡ true) → (n : ℕ) (l : List A) → allFirst n p l ≡ true → allFirst n q (mapFirst n f l) ≡ true
+unfolding allFirst mapFirst
+all-mapped p q f h zero l e = refl
+all-mapped p q f h (suc n) [] e = refl
+all-mapped p q f h (suc n) (x ∷ l) e =
+    rw (h x (and-left (p x) (all p (take n l)) e)) (all-mapped p q f h n l (and-right (p x) (all p (take n l)) e))
+
+-- ---- a bit for each
+
+twice : (w i : ℕ) → (w + w) * 2 ^ i ≡ w * 2 ^ suc i
+twice w i = simp (add-mul, pow-suc, ← mul-assoc) (omega arith)
+
+cond-le : (b : Bool) (w : ℕ) → cond b w 0 ≤ w
+cond-le true w = omega arith
+cond-le false w = omega arith
+
+pub weight-more : (i w : ℕ) → w ≡ 2 ^ i → w + w ≡ 2 ^ (i + 1)
+weight-more i w e = rw (add-one, pow-suc, e) (omega arith)
+
+module _ {A : Type 0} (p : A → Bool) where
+  mask-suc : (z : A) (w : ℕ) (l : List A) (i : ℕ) → i < length l → mask w p (take (suc i) l) ≡ mask w p (take i l) + cond (p (getD l i z)) (w * 2 ^ i) 0
+  mask-suc z w [] i h = absurd (omega arith)
+  mask-suc z w (x ∷ l) zero h = simp mul-one (omega arith)
+  mask-suc z w (x ∷ l) (suc i) h = rw (mask-suc z (w + w) l i (le-of-suc-le-suc h), twice w i) (omega arith)
+
+  mask-bound : (w : ℕ) (l : List A) (i : ℕ) → mask w p (take i l) + w ≤ w * 2 ^ i
+  mask-bound w l zero = simp mul-one (omega arith)
+  mask-bound w [] (suc i) = omega (arith, mask-bound w [] i, twice w i, add-mul w w (2 ^ i))
+  mask-bound w (x ∷ l) (suc i) = omega (arith, mask-bound (w + w) l i, twice w i, cond-le (p x) w)
+
+  pub mask-none : (l : List A) → 0 ≡ maskFirst 0 p l
+  unfolding maskFirst
+  mask-none l = refl
+
+  mask-small : (l : List A) (i : ℕ) → maskFirst i p l < 2 ^ i
+  unfolding maskFirst
+  mask-small l i = omega (arith, mask-bound 1 l i, one-mul (2 ^ i))
+
+  -- the set of eight positions and its weight fit a byte
+  pub mask-room : (l : List A) (i m w : ℕ) → i < 8 → w ≡ 2 ^ i → m ≡ maskFirst i p l → (m < w) × (w ≤ 128)
+  mask-room l i m w h e q =
+      let k : 2 ^ i ≤ 2 ^ 7 = pow-mono (le-of-suc-le-suc h) in
+      (omega (arith, mask-small l i), omega arith)
+
+  -- a turn adds bit i where p holds of the element at i
+  pub mask-more : (z : A) (l : List A) (i m w r : ℕ) (on : Bool) → i < length l → w ≡ 2 ^ i → m ≡ maskFirst i p l → on ≡ p (getD l i z) → r ≡ cond on w 0 → m + r ≡ maskFirst (i + 1) p l
+  unfolding maskFirst
+  mask-more z l i m w r on h e q u v = rw (add-one, mask-suc z 1 l i h, one-mul, v, u, q, e)
+
+  pub mask-done : (l : List A) (m i n : ℕ) → i ≤ n → n ≤ i → m ≡ maskFirst i p l → m ≡ maskFirst n p l
+  mask-done l m i n h k e = let q : n ≡ i = omega arith in rw q e
+
+-- ---- a byte of each
+
+module _ {A : Type 0} (f : A → ℕ) where
+  pub and-none : (l : List A) → 255 ≡ andFirst 0 f l
+  unfolding andFirst
+  and-none l = refl
+
+  and-suc : (z : A) (l : List A) (i b : ℕ) → i < length l → andOf f (take (suc i) l) b ≡ bitAnd (andOf f (take i l) b) (f (getD l i z))
+  and-suc z [] i b h = absurd (omega arith)
+  and-suc z (x ∷ l) zero b h = refl
+  and-suc z (x ∷ l) (suc i) b h = and-suc z l i (bitAnd b (f x)) (le-of-suc-le-suc h)
+
+  pub and-more : (z : A) (l : List A) (i m r : ℕ) → i < length l → m ≡ andFirst i f l → r ≡ f (getD l i z) → bitAnd m r ≡ andFirst (i + 1) f l
+  unfolding andFirst
+  and-more z l i m r h e q = rw (add-one, and-suc z l i 255 h, e, q)
+
+  pub and-done : (l : List A) (m i n : ℕ) → i ≤ n → n ≤ i → m ≡ andFirst i f l → m ≡ andFirst n f l
+  and-done l m i n h k e = let q : n ≡ i = omega arith in rw q e

@@ -1,0 +1,147 @@
+// The devices of a bus: one of them, or one function at each.
+use crate::Bus;
+use chip::Chip;
+use device::Device;
+use device::Phase;
+use protocol::Signal;
+ghost use mathlib.Core.Path.{_≡_};
+ghost use mathlib.Core.Bool.{cond};
+ghost use Prim.Native.Nat.{_≤_};
+ghost use lib.ListN.{getD, set};
+ghost use Rattle.chip.specs.declared.Chip.the-variants.{Pca9635};
+ghost use Rattle.device.specs.Reset.{fresh};
+ghost use Rattle.device.specs.WellFormed.{wellFormed};
+ghost use Rattle.protocol.specs.Put.{acksTo};
+ghost use Rattle.protocol.specs.Read.{talkOf};
+ghost use Rattle.protocol.specs.Signal.{deviceAfter};
+ghost use Rattle.bus.specs.First.{mapFirst, allFirst, maskFirst, andFirst};
+ghost use Rattle.bus.specs.Bus.{busOk, hasDevice, deviceAt, withDevice, busAfter};
+
+fn all_ok(devices: [Device; 8], n: usize, phase: Phase) -> bool
+    requires { ⌜ n ≤ 8 ⌝ }
+    ensures { λ r. ⌜ r ≡ allFirst n (wellFormed phase) devices ⌝ }
+{
+    for i in 0..n {
+        if device::record::is_well_formed(phase, devices[i]) {} else {
+            return false;
+        }
+    }
+    true
+}
+
+pub fn is_ok(bus: Bus) -> bool
+    ensures { λ r. ⌜ r ≡ busOk bus ⌝ }
+{
+    if bus.count <= 8 {
+        let devices = bus.devices;
+        let phase = bus.phase;
+        all_ok(devices, bus.count as usize, phase)
+    } else {
+        false
+    }
+}
+
+pub fn has_device(bus: Bus, dev: u64) -> bool
+    ensures { λ r. ⌜ r ≡ hasDevice bus dev ⌝ }
+{
+    if dev < bus.count as u64 {
+        dev < 8
+    } else {
+        false
+    }
+}
+
+fn element(devices: [Device; 8], dev: u64) -> Device
+    ensures { λ r. ⌜ r ≡ getD devices dev (fresh Pca9635 0) ⌝ }
+{
+    if dev < 8 {
+        devices[dev as usize]
+    } else {
+        device::fresh(Chip::Pca9635, 0)
+    }
+}
+
+pub fn device_at(bus: Bus, dev: u64) -> Device
+    ensures { λ r. ⌜ r ≡ deviceAt bus dev ⌝ }
+{
+    let devices = bus.devices;
+    element(devices, dev)
+}
+
+pub fn with_element(devices: [Device; 8], dev: u64, d: Device) -> [Device; 8]
+    ensures { λ r. ⌜ r ≡ set devices dev d ⌝ }
+{
+    let mut next = devices;
+    if dev < 8 {
+        next[dev as usize] = d;
+    }
+    next
+}
+
+pub fn with_device(bus: Bus, dev: u64, d: Device) -> Bus
+    ensures { λ r. ⌜ r ≡ withDevice bus dev d ⌝ }
+{
+    let devices = bus.devices;
+    let after = with_element(devices, dev, d);
+    let mut next = bus;
+    next.devices = after;
+    next
+}
+
+fn all_after(devices: [Device; 8], n: usize, phase: Phase, signal: Signal) -> [Device; 8]
+    requires { ⌜ n ≤ 8 ⌝ }
+    ensures { λ r. ⌜ r ≡ mapFirst n (deviceAfter phase signal) devices ⌝ }
+{
+    let mut next = devices;
+    for i in 0..n {
+        next[i] = protocol::after::device_after(phase, signal, next[i]);
+    }
+    next
+}
+
+// The bus after a signal: one function at every device.
+pub fn after(signal: Signal, bus: Bus) -> Bus
+    requires { ⌜ bus .count ≤ 8 ⌝ }
+    ensures { λ r. ⌜ r ≡ busAfter signal bus ⌝ }
+{
+    let phase = bus.phase;
+    let devices = bus.devices;
+    let next = all_after(devices, bus.count as usize, phase, signal);
+    Bus {
+        phase: protocol::after::phase_after(phase, signal),
+        count: bus.count,
+        devices: next,
+    }
+}
+
+fn weight_of(on: bool, weight: u64) -> u64
+    ensures { λ r. ⌜ (r ≡ cond on weight 0) × (r ≤ weight) ⌝ }
+{
+    if on { weight } else { 0 }
+}
+
+// Bit i for each of the first n devices that acknowledges the byte.
+pub fn ack_set(devices: [Device; 8], n: usize, phase: Phase, byte: u8) -> u64
+    requires { ⌜ n ≤ 8 ⌝ }
+    ensures { λ r. ⌜ r ≡ maskFirst n (acksTo phase byte) devices ⌝ }
+{
+    let mut set: u64 = 0;
+    let mut weight: u64 = 1;
+    for i in 0..n {
+        set += weight_of(protocol::put::acks(phase, byte, devices[i]), weight);
+        weight += weight;
+    }
+    set
+}
+
+// The AND of what the first n devices put on the bus.
+pub fn talk(devices: [Device; 8], n: usize) -> u8
+    requires { ⌜ n ≤ 8 ⌝ }
+    ensures { λ r. ⌜ r ≡ andFirst n talkOf devices ⌝ }
+{
+    let mut byte: u8 = 255;
+    for i in 0..n {
+        byte = byte & protocol::read::talk(devices[i]);
+    }
+    byte
+}

@@ -1,0 +1,128 @@
+// START, STOP, a put and a get.
+use crate::Bus;
+use crate::Reply;
+use protocol::Signal;
+ghost use mathlib.Core.Path.{_≡_};
+ghost use Prim.Native.Nat.{_≤_};
+ghost use Rattle.bus.specs.Refusals.{codeOf};
+ghost use Rattle.bus.specs.Replies.{signalRefusals, signalReply, startReply, stopReply, putRefusals, putValue, putDone, putReply, getRefusals, getDone, getReply};
+
+fn signal_code(bus: Bus, signal: Signal) -> u64
+    ensures { λ r. ⌜ r ≡ codeOf (signalRefusals bus signal) ⌝ }
+{
+    let phase = bus.phase;
+    if crate::devices::is_ok(bus) {
+        if protocol::after::in_turn(phase, signal) {
+            0
+        } else {
+            5
+        }
+    } else {
+        4
+    }
+}
+
+// A signal with no value.
+fn signalled(bus: Bus, signal: Signal) -> Reply
+    ensures { λ r. ⌜ r ≡ signalReply bus signal ⌝ }
+{
+    let code = signal_code(bus, signal);
+    if code == 0 {
+        crate::done(0, crate::devices::after(signal, bus))
+    } else {
+        crate::refused(bus, code)
+    }
+}
+
+pub fn start(bus: Bus) -> Reply
+    ensures { λ r. ⌜ r ≡ startReply bus ⌝ }
+{
+    signalled(bus, Signal::Start)
+}
+
+pub fn stop(bus: Bus) -> Reply
+    ensures { λ r. ⌜ r ≡ stopReply bus ⌝ }
+{
+    signalled(bus, Signal::Stop)
+}
+
+fn put_code(bus: Bus, byte: u64) -> u64
+    ensures { λ r. ⌜ r ≡ codeOf (putRefusals bus byte) ⌝ }
+{
+    let phase = bus.phase;
+    if crate::devices::is_ok(bus) {
+        if protocol::after::in_turn(phase, Signal::Put(0)) {
+            if 255 < byte { 7 } else { 0 }
+        } else {
+            5
+        }
+    } else {
+        4
+    }
+}
+
+// 1 if any device acknowledges.
+pub fn put_value(set: u64) -> u64
+    ensures { λ r. ⌜ r ≡ putValue set ⌝ }
+{
+    if set == 0 { 0 } else { 1 }
+}
+
+fn put_done(bus: Bus, byte: u8) -> Reply
+    requires { ⌜ bus .count ≤ 8 ⌝ }
+    ensures { λ r. ⌜ r ≡ putDone bus byte ⌝ }
+{
+    let phase = bus.phase;
+    let devices = bus.devices;
+    let set = crate::devices::ack_set(devices, bus.count as usize, phase, byte);
+    crate::done(
+        put_value(set),
+        crate::devices::after(Signal::Put(byte), bus),
+    )
+}
+
+pub fn put(bus: Bus, byte: u64) -> Reply
+    ensures { λ r. ⌜ r ≡ putReply bus byte ⌝ }
+{
+    let code = put_code(bus, byte);
+    if code == 0 {
+        put_done(bus, byte as u8)
+    } else {
+        crate::refused(bus, code)
+    }
+}
+
+fn get_code(bus: Bus, ack: u64) -> u64
+    ensures { λ r. ⌜ r ≡ codeOf (getRefusals bus ack) ⌝ }
+{
+    let phase = bus.phase;
+    if crate::devices::is_ok(bus) {
+        if protocol::after::in_turn(phase, Signal::Get(true)) {
+            if 1 < ack { 7 } else { 0 }
+        } else {
+            5
+        }
+    } else {
+        4
+    }
+}
+
+fn get_done(bus: Bus, ack: bool) -> Reply
+    requires { ⌜ bus .count ≤ 8 ⌝ }
+    ensures { λ r. ⌜ r ≡ getDone bus ack ⌝ }
+{
+    let devices = bus.devices;
+    let byte = crate::devices::talk(devices, bus.count as usize);
+    crate::done(byte as u64, crate::devices::after(Signal::Get(ack), bus))
+}
+
+pub fn get(bus: Bus, ack: u64) -> Reply
+    ensures { λ r. ⌜ r ≡ getReply bus ack ⌝ }
+{
+    let code = get_code(bus, ack);
+    if code == 0 {
+        get_done(bus, ack == 1)
+    } else {
+        crate::refused(bus, code)
+    }
+}
