@@ -4,3 +4,4 @@ pub mod Bus
 pub mod Replies
 pub mod Events
 pub mod laws
+pub mod Promises

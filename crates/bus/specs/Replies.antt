@@ -43,8 +43,11 @@ answer l b done = cond (eqb (codeOf l) 0) done (refusedWith b (codeOf l))
 abbrev pub signalRefusals : Bus → Signal → List Refusal
 signalRefusals b s = refuse 4 (not (busOk b)) ∷ refuse 5 (not (inTurn (b .phase) s)) ∷ []
 
+abbrev pub signalDone : Bus → Signal → Reply
+signalDone b s = doneWith 0 (busAfter s b)
+
 unfoldable pub signalReply : Bus → Signal → Reply
-signalReply b s = answer (signalRefusals b s) b (doneWith 0 (busAfter s b))
+signalReply b s = answer (signalRefusals b s) b (signalDone b s)
 
 abbrev pub startReply : Bus → Reply
 startReply b = signalReply b S.Start
@@ -107,9 +110,11 @@ addedTo b Unknown address = b
 addedTo b (Known chip) address = withAdded b (fresh chip address)
 
 -- add's value: the position
+abbrev pub addDone : Bus → ℕ → ℕ → Reply
+addDone b chip address = doneWith (b .count) (addedTo b (chipNumbered chip) address)
+
 unfoldable pub addReply : Bus → ℕ → ℕ → Reply
-addReply b chip address =
-    answer (addRefusals b chip address) b (doneWith (b .count) (addedTo b (chipNumbered chip) address))
+addReply b chip address = answer (addRefusals b chip address) b (addDone b chip address)
 
 -- ---- events and questions for one device
 
@@ -122,9 +127,11 @@ abbrev pub waitRefusals : Bus → ℕ → ℕ → List Refusal
 waitRefusals b dev ticks =
     refuse 3 (not (hasDevice b dev)) ∷ refuse 4 (not (busOk b)) ∷ refuse 6 (overruns (deviceAt b dev) ticks) ∷ []
 
+abbrev pub waitDone : Bus → ℕ → ℕ → Reply
+waitDone b dev ticks = doneWith 0 (withDevice b dev (waitedOf (deviceAt b dev) ticks))
+
 unfoldable pub waitReply : Bus → ℕ → ℕ → Reply
-waitReply b dev ticks =
-    answer (waitRefusals b dev ticks) b (doneWith 0 (withDevice b dev (waitedOf (deviceAt b dev) ticks)))
+waitReply b dev ticks = answer (waitRefusals b dev ticks) b (waitDone b dev ticks)
 
 -- 7 a level above the largest; 10 the wrong sort of device
 abbrev pub levelRefusals : Bus → ℕ → ℕ → ℕ → Bool → List Refusal
@@ -134,21 +141,26 @@ levelRefusals b dev most level wrong =
 abbrev pub oeRefusals : Bus → ℕ → ℕ → List Refusal
 oeRefusals b dev level = levelRefusals b dev 1 level (not (isDriver (deviceAt b dev .chip)))
 
+abbrev pub oeDone : Bus → ℕ → ℕ → Reply
+oeDone b dev level = doneWith 0 (withDevice b dev (withOe (deviceAt b dev) (eqb level 1)))
+
 unfoldable pub oeReply : Bus → ℕ → ℕ → Reply
-oeReply b dev level =
-    answer (oeRefusals b dev level) b
-    (doneWith 0 (withDevice b dev (withOe (deviceAt b dev) (eqb level 1))))
+oeReply b dev level = answer (oeRefusals b dev level) b (oeDone b dev level)
 
 abbrev pub extRefusals : Bus → ℕ → ℕ → List Refusal
 extRefusals b dev level = levelRefusals b dev 255 level (isDriver (deviceAt b dev .chip))
 
+abbrev pub extDone : Bus → ℕ → ℕ → Reply
+extDone b dev level = doneWith 0 (withDevice b dev (withLevels (deviceAt b dev) level))
+
 unfoldable pub extReply : Bus → ℕ → ℕ → Reply
-extReply b dev level =
-    answer (extRefusals b dev level) b
-    (doneWith 0 (withDevice b dev (withLevels (deviceAt b dev) level)))
+extReply b dev level = answer (extRefusals b dev level) b (extDone b dev level)
+
+abbrev pub resetDone : Bus → ℕ → Reply
+resetDone b dev = doneWith 0 (withDevice b dev (resetOf (deviceAt b dev)))
 
 unfoldable pub resetReply : Bus → ℕ → Reply
-resetReply b dev = answer (placeRefusals b dev) b (doneWith 0 (withDevice b dev (resetOf (deviceAt b dev))))
+resetReply b dev = answer (placeRefusals b dev) b (resetDone b dev)
 
 -- 9 no such output
 abbrev pub isMissing : Bus → ℕ → ℕ → Bool
@@ -166,20 +178,29 @@ litRefusals b dev out ticks =
     ∷ refuse 9 (isMissing b dev out)
     ∷ []
 
+abbrev pub litDone : Bus → ℕ → ℕ → ℕ → Reply
+litDone b dev out ticks = doneWith (litOf (deviceAt b dev) out ticks) b
+
 unfoldable pub litReply : Bus → ℕ → ℕ → ℕ → Reply
-litReply b dev out ticks = answer (litRefusals b dev out ticks) b (doneWith (litOf (deviceAt b dev) out ticks) b)
+litReply b dev out ticks = answer (litRefusals b dev out ticks) b (litDone b dev out ticks)
 
 abbrev pub pinRefusals : Bus → ℕ → ℕ → List Refusal
 pinRefusals b dev out =
     refuse 3 (not (hasDevice b dev)) ∷ refuse 4 (not (busOk b)) ∷ refuse 9 (isMissing b dev out) ∷ []
 
+abbrev pub pinDone : Bus → ℕ → ℕ → Reply
+pinDone b dev out = doneWith (pinOf (deviceAt b dev) out) b
+
 unfoldable pub pinReply : Bus → ℕ → ℕ → Reply
-pinReply b dev out = answer (pinRefusals b dev out) b (doneWith (pinOf (deviceAt b dev) out) b)
+pinReply b dev out = answer (pinRefusals b dev out) b (pinDone b dev out)
 
 -- the blink-start question: 10 for a driver
 abbrev pub blinkRefusals : Bus → ℕ → List Refusal
 blinkRefusals b dev =
     refuse 3 (not (hasDevice b dev)) ∷ refuse 4 (not (busOk b)) ∷ refuse 10 (isDriver (deviceAt b dev .chip)) ∷ []
 
+abbrev pub blinkDone : Bus → ℕ → Reply
+blinkDone b dev = doneWith (commonStartOf (deviceAt b dev)) b
+
 unfoldable pub blinkReply : Bus → ℕ → Reply
-blinkReply b dev = answer (blinkRefusals b dev) b (doneWith (commonStartOf (deviceAt b dev)) b)
+blinkReply b dev = answer (blinkRefusals b dev) b (blinkDone b dev)

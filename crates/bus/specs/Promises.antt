@@ -1,0 +1,230 @@
+-- Promises on every event, for any bus (demand 1): the code is the least number whose condition holds; a refused event has value 0 and leaves the bus as it was;
+-- a well-formed bus stays well formed, and is never refused for its shape.
+use mathlib.Core.Path.{_≡_, refl, sym, ap, _∙_}
+use mathlib.Core.Bool.{Bool, true, false, cond, false≢true}
+use mathlib.Core.List.{List, [], _∷_}
+use Prim.Native.Nat.{ℕ, _+_, _<_}
+use native.Mathlib.Numerals.{add-one}
+use native.Mathlib.Omega.{arith}
+use lib.Dec.{leb, ltb, eqb}
+use borrow.Author.Tests.{eqb-true, leb-false, le-leb, ltb-true, not-false}
+use Rattle.chip.specs.Kinds.{chipNumbered}
+use Rattle.chip.specs.Addresses.{addressAllowed}
+use Rattle.chip.specs.declared.Chip.the-variants.{Pca9635}
+use Rattle.chip.specs.declared.Lookup.{Lookup}
+use Rattle.chip.specs.declared.Lookup.the-variants.{Known, Unknown}
+use Rattle.chip.specs.laws.Logic.{and-left, and-right}
+use Rattle.device.specs.Fields.{withOe, withLevels}
+use Rattle.device.specs.Reset.{fresh, resetOf}
+use Rattle.device.specs.Wait.{waitedOf}
+use Rattle.device.specs.WellFormed.{wellFormed}
+use Rattle.device.specs.Promises.{fresh-well, reset-well, oe-well, levels-well, waited-well}
+use Rattle.device.specs.laws.WellFormed.{well-formed-ok}
+use Rattle.device.specs.declared.Device.{Device}
+use Rattle.device.specs.declared.Phase.{Phase}
+use Rattle.protocol.specs.Signal.{inTurn, phaseAfterSignal, deviceAfter}
+use Rattle.protocol.specs.Promises.{signal-well}
+use Rattle.protocol.specs.declared.Signal.{Signal}
+use Rattle.protocol.specs.declared.Signal.the-variants as S
+use Rattle.bus.specs.First.{allFirst}
+use Rattle.bus.specs.Refusals.{Refusal, codeOf, holdsAt, risesFrom}
+use Rattle.bus.specs.Bus.{busOk, hasDevice, deviceAt, withDevice, withAdded, busAfter, emptyBus}
+use Rattle.bus.specs.Replies.{refusedWith, answer, signalReply, putReply, getReply, isBarred, addedTo, addReply, waitReply, oeReply, extReply, resetReply, litReply, pinReply}
+use Rattle.bus.specs.Events.{stepReply, stepRefusals, stepDone, runBus}
+use Rattle.bus.specs.laws.First.{all-at, all-set, all-added, all-mapped}
+use Rattle.bus.specs.laws.Refusals.{NoneHolds, accepted, IsLeast, code-least, least-code}
+use Rattle.bus.specs.declared.Bus.{Bus}
+use Rattle.bus.specs.declared.Event.{Event}
+use Rattle.bus.specs.declared.Event.the-variants.{Add, Start, Stop, Put, Get, Wait, Oe, Ext, Reset, Lit, Pin}
+use Rattle.bus.specs.declared.Reply.{Reply}
+
+-- ---- an answer
+
+-- what holds of the bus as it was, and of the bus where no refusal holds, holds of the bus afterwards
+answer-bus : (P : Bus → Type 0) (l : List Refusal) (b : Bus) (d : Reply) → risesFrom 0 l ≡ true → P b → (NoneHolds l → P (d .bus)) → P (answer l b d .bus)
+unfolding answer
+answer-bus P l b d h p q = go (eqb (codeOf l) 0) refl
+  where
+    go : (t : Bool) → eqb (codeOf l) 0 ≡ t → P (cond t d (refusedWith b (codeOf l)) .bus)
+    go true e = q (accepted 0 l h (eqb-true (codeOf l) 0 e))
+    go false e = p
+
+answer-code : (l : List Refusal) (b : Bus) (d : Reply) → d .code ≡ 0 → answer l b d .code ≡ codeOf l
+unfolding answer
+answer-code l b d z = go (eqb (codeOf l) 0) refl
+  where
+    go : (t : Bool) → eqb (codeOf l) 0 ≡ t → cond t d (refusedWith b (codeOf l)) .code ≡ codeOf l
+    go true e = z ∙ sym (eqb-true (codeOf l) 0 e)
+    go false e = refl
+
+answer-refused : (l : List Refusal) (b : Bus) (d : Reply) → d .code ≡ 0 → (answer l b d .code ≡ 0 → ⊥) → answer l b d ≡ refusedWith b (answer l b d .code)
+unfolding answer
+answer-refused l b d z n = go (eqb (codeOf l) 0) n
+  where
+    go : (t : Bool) → (cond t d (refusedWith b (codeOf l)) .code ≡ 0 → ⊥) → cond t d (refusedWith b (codeOf l)) ≡ refusedWith b (cond t d (refusedWith b (codeOf l)) .code)
+    go true m = absurd (m z)
+    go false m = refl
+
+-- every event is answered by its refusals
+pub step-is : (b : Bus) (e : Event) → stepReply b e ≡ answer (stepRefusals b e) b (stepDone b e)
+unfolding stepReply stepRefusals stepDone signalReply putReply getReply addReply waitReply oeReply extReply resetReply litReply pinReply
+step-is b (Add chip addr) = refl
+step-is b Start = refl
+step-is b Stop = refl
+step-is b (Put byte) = refl
+step-is b (Get ack) = refl
+step-is b (Wait dev ticks) = refl
+step-is b (Oe dev level) = refl
+step-is b (Ext dev level) = refl
+step-is b (Reset dev) = refl
+step-is b (Lit dev out ticks) = refl
+step-is b (Pin dev out) = refl
+
+-- ---- the code
+
+-- the refusals of every event rise, and its code is theirs
+pub step-rises : (b : Bus) (e : Event) → risesFrom 0 (stepRefusals b e) ≡ true
+unfolding stepRefusals
+step-rises b (Add chip addr) = refl
+step-rises b Start = refl
+step-rises b Stop = refl
+step-rises b (Put byte) = refl
+step-rises b (Get ack) = refl
+step-rises b (Wait dev ticks) = refl
+step-rises b (Oe dev level) = refl
+step-rises b (Ext dev level) = refl
+step-rises b (Reset dev) = refl
+step-rises b (Lit dev out ticks) = refl
+step-rises b (Pin dev out) = refl
+
+done-code : (b : Bus) (e : Event) → stepDone b e .code ≡ 0
+unfolding stepDone
+done-code b (Add chip addr) = refl
+done-code b Start = refl
+done-code b Stop = refl
+done-code b (Put byte) = refl
+done-code b (Get ack) = refl
+done-code b (Wait dev ticks) = refl
+done-code b (Oe dev level) = refl
+done-code b (Ext dev level) = refl
+done-code b (Reset dev) = refl
+done-code b (Lit dev out ticks) = refl
+done-code b (Pin dev out) = refl
+
+pub step-code : (b : Bus) (e : Event) → stepReply b e .code ≡ codeOf (stepRefusals b e)
+step-code b e = rw (step-is b e) (answer-code (stepRefusals b e) b (stepDone b e) (done-code b e))
+
+-- a code other than 0 is given exactly when its condition holds and no smaller one's does
+pub code-exact : (b : Bus) (e : Event) (k : ℕ) → 0 < k → (stepReply b e .code ≡ k → IsLeast (stepRefusals b e) k) × (IsLeast (stepRefusals b e) k → stepReply b e .code ≡ k)
+code-exact b e k p = (
+  λ c. code-least 0 (stepRefusals b e) (step-rises b e) k p (sym (step-code b e) ∙ c),
+  λ i. step-code b e ∙ least-code 0 (stepRefusals b e) (step-rises b e) k i,
+)
+
+-- ---- refused events
+
+pub refused-same : (b : Bus) (e : Event) → (stepReply b e .code ≡ 0 → ⊥) → stepReply b e ≡ refusedWith b (stepReply b e .code)
+refused-same b e n =
+    rw (step-is b e) (answer-refused (stepRefusals b e) b (stepDone b e) (done-code b e) (λ z. n (ap (λ (r : Reply). r .code) (step-is b e) ∙ z)))
+
+-- ---- well-formedness
+
+-- what a well-formed bus is
+record Well (b : Bus) : Type 0 where
+  few : leb (b .count) 8 ≡ true
+  each : allFirst (b .count) (wellFormed (b .phase)) (b .devices) ≡ true
+
+well : (b : Bus) → busOk b ≡ true → Well b
+unfolding busOk
+well b h =
+    record {
+      few = and-left (leb (b .count) 8) (allFirst (b .count) (wellFormed (b .phase)) (b .devices)) h;
+      each = and-right (leb (b .count) 8) (allFirst (b .count) (wellFormed (b .phase)) (b .devices)) h;
+    }
+
+is-well : (b : Bus) → Well b → busOk b ≡ true
+unfolding busOk
+is-well b w = rw (w .few, w .each) refl
+
+spare-well : (p : Phase) → wellFormed p (fresh Pca9635 0) ≡ true
+unfolding addressAllowed
+spare-well p = fresh-well p Pca9635 0 refl
+
+-- a device of a well-formed bus is well formed
+pub device-well : (b : Bus) (dev : ℕ) → busOk b ≡ true → hasDevice b dev ≡ true → wellFormed (b .phase) (deviceAt b dev) ≡ true
+device-well b dev h there =
+    all-at (wellFormed (b .phase)) (fresh Pca9635 0) (b .devices) dev (b .count)
+    (ltb-true dev (b .count) (and-left (ltb dev (b .count)) (ltb dev 8) there)) (spare-well (b .phase)) (well b h .each)
+
+with-device-well : (b : Bus) (dev : ℕ) (d : Device) → busOk b ≡ true → wellFormed (b .phase) d ≡ true → busOk (withDevice b dev d) ≡ true
+with-device-well b dev d h k =
+    is-well (withDevice b dev d)
+    (record { few = well b h .few; each = all-set (wellFormed (b .phase)) (b .devices) dev (b .count) d k (well b h .each) })
+
+after-well : (s : Signal) (b : Bus) → inTurn (b .phase) s ≡ true → busOk b ≡ true → busOk (busAfter s b) ≡ true
+after-well s b t h =
+    is-well (busAfter s b)
+    (record {
+      few = well b h .few;
+      each = all-mapped (wellFormed (b .phase)) (wellFormed (phaseAfterSignal (b .phase) s)) (deviceAfter (b .phase) s) (λ d k. signal-well (b .phase) s d t k) (b .count) (b .devices) (well b h .each);
+    })
+
+added-well : (b : Bus) (found : Lookup) (address : ℕ) → busOk b ≡ true → isBarred found address ≡ false → leb 8 (b .count) ≡ false → busOk (addedTo b found address) ≡ true
+added-well b Unknown address h k f = h
+added-well b (Known chip) address h k f =
+    is-well (withAdded b (fresh chip address))
+    (record {
+      few = le-leb (b .count + 1) 8 (omega (arith, leb-false 8 (b .count) f));
+      each = rw (add-one (b .count)) (all-added (wellFormed (b .phase)) (b .devices) (b .count) (fresh chip address) (fresh-well (b .phase) chip address (not-false (addressAllowed chip address) k)) (well b h .each));
+    })
+
+done-well : (b : Bus) (e : Event) → busOk b ≡ true → NoneHolds (stepRefusals b e) → busOk (stepDone b e .bus) ≡ true
+unfolding stepRefusals stepDone
+done-well b (Add chip addr) h n = added-well b (chipNumbered chip) addr h (n .1 .0) (n .1 .1 .0)
+done-well b Start h n = after-well S.Start b refl h
+done-well b Stop h n = after-well S.Stop b (not-false (inTurn (b .phase) S.Stop) (n .1 .0)) h
+done-well b (Put byte) h n = after-well (S.Put byte) b (not-false (inTurn (b .phase) (S.Put byte)) (n .1 .0)) h
+done-well b (Get ack) h n = after-well (S.Get (eqb ack 1)) b (not-false (inTurn (b .phase) (S.Get (eqb ack 1))) (n .1 .0)) h
+done-well b (Wait dev ticks) h n =
+    with-device-well b dev (waitedOf (deviceAt b dev) ticks) h (waited-well (b .phase) ticks (deviceAt b dev) (device-well b dev h (not-false (hasDevice b dev) (n .0))))
+done-well b (Oe dev level) h n =
+    with-device-well b dev (withOe (deviceAt b dev) (eqb level 1)) h (oe-well (b .phase) (eqb level 1) (deviceAt b dev) (device-well b dev h (not-false (hasDevice b dev) (n .0))))
+done-well b (Ext dev level) h n =
+    with-device-well b dev (withLevels (deviceAt b dev) level) h (levels-well (b .phase) level (deviceAt b dev) (device-well b dev h (not-false (hasDevice b dev) (n .0))))
+done-well b (Reset dev) h n =
+    with-device-well b dev (resetOf (deviceAt b dev)) h (reset-well (b .phase) (deviceAt b dev) (well-formed-ok (b .phase) (deviceAt b dev) (device-well b dev h (not-false (hasDevice b dev) (n .0)))))
+done-well b (Lit dev out ticks) h n = h
+done-well b (Pin dev out) h n = h
+
+-- a well-formed bus stays well formed through every event, accepted or refused
+pub step-well : (b : Bus) (e : Event) → busOk b ≡ true → busOk (stepReply b e .bus) ≡ true
+step-well b e h =
+    rw (step-is b e)
+    (answer-bus (λ (x : Bus). busOk x ≡ true) (stepRefusals b e) b (stepDone b e) (step-rises b e) h (done-well b e h))
+
+pub empty-well : busOk emptyBus ≡ true
+unfolding busOk allFirst
+empty-well = refl
+
+-- and through a run of any events
+pub run-well : (b : Bus) (l : List Event) → busOk b ≡ true → busOk (runBus b l) ≡ true
+run-well b [] h = h
+run-well b (e ∷ l) h = run-well (stepReply b e .bus) l (step-well b e h)
+
+shape-holds : (b : Bus) (e : Event) → busOk b ≡ true → holdsAt (stepRefusals b e) 4 ≡ false
+unfolding stepRefusals
+shape-holds b (Add chip addr) h = rw h refl
+shape-holds b Start h = rw h refl
+shape-holds b Stop h = rw h refl
+shape-holds b (Put byte) h = rw h refl
+shape-holds b (Get ack) h = rw h refl
+shape-holds b (Wait dev ticks) h = rw h refl
+shape-holds b (Oe dev level) h = rw h refl
+shape-holds b (Ext dev level) h = rw h refl
+shape-holds b (Reset dev) h = rw h refl
+shape-holds b (Lit dev out ticks) h = rw h refl
+shape-holds b (Pin dev out) h = rw h refl
+
+-- a well-formed bus is never refused for its shape
+pub never-shape : (b : Bus) (e : Event) → busOk b ≡ true → stepReply b e .code ≡ 4 → ⊥
+never-shape b e h c = false≢true (sym (shape-holds b e h) ∙ code-exact b e 4 (omega arith) .0 c .0)
