@@ -3,5 +3,7 @@ pub mod Refusals
 pub mod Bus
 pub mod Replies
 pub mod Events
+pub mod Duty
 pub mod laws
 pub mod Promises
+pub mod Demand3

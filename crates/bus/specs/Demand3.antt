@@ -1,0 +1,144 @@
+-- Demand 3 on the answers of lit: the bounds for every bus, position, output and length, that each bound is reached, and that the buses that reach it exist.
+-- Once over the number of outputs: a driver's chip is a variable.
+use mathlib.Core.Path.{_≡_, refl, sym, ap, _∙_}
+use mathlib.Core.Bool.{Bool, true, false, not, _&&_, _||_, cond, and-false, true≢false, false≢true}
+use mathlib.Core.List.{List, [], _∷_}
+use Prim.Native.Nat.{ℕ, _+_, _-_, _*_, _/_, _%_, _^_, _≤_, _<_}
+use native.Mathlib.Omega.{arith}
+use lib.Dec.{leb, ltb, eqb}
+use borrow.Author.Tests.{eqb-true, eq-eqb, le-leb, le-ltb, not-false}
+use Rattle.lamp.specs.Window.{litTicks, countLimit, countedTicks}
+use Rattle.lamp.specs.Driver.{driverMode, driverLit}
+use Rattle.lamp.specs.Duty.{Bounded}
+use Rattle.lamp.specs.Promises.{individual-duty, dimmed-duty}
+use Rattle.lamp.specs.declared.DriverMode.{DriverMode}
+use Rattle.lamp.specs.declared.DriverMode.the-variants as Mode
+use Rattle.chip.specs.Kinds.{isDriver, outputsOf}
+use Rattle.chip.specs.Registers.{grppwm, grpfreq, pwm0}
+use Rattle.chip.specs.laws.Logic.{and-left, and-right}
+use Rattle.device.specs.Registers.{inEffect, isAwake, isBlinking}
+use Rattle.device.specs.Output.{ledoutOf, driverOutput, lampLit, litOf}
+use Rattle.device.specs.Wait.{overruns}
+use Rattle.device.specs.declared.Device.{Device}
+use Rattle.bus.specs.Refusals.{codeOf}
+use Rattle.bus.specs.Bus.{busOk, hasDevice, deviceAt}
+use Rattle.bus.specs.Replies.{refusedWith, answer, isTooLong, isMissing, litRefusals, litDone, litReply}
+use Rattle.bus.specs.Duty.{Output, Individual, Dimmed, Stands}
+use Rattle.bus.specs.laws.Refusals.{NoneHolds, accepted}
+use Rattle.bus.specs.declared.Bus.{Bus}
+
+-- ---- lit's value is the tick-by-tick sum
+
+or-false : (a b : Bool) → (a || b) ≡ false → (a ≡ false) × (b ≡ false)
+or-false true b e = (e, absurd (true≢false e))
+or-false false b e = (refl, e)
+
+-- a code of 0 comes with no condition held, and with the value of a done call
+lit-done : (b : Bus) (dev out w : ℕ) → litReply b dev out w .code ≡ 0 → NoneHolds (litRefusals b dev out w) × (litReply b dev out w .value ≡ litOf (deviceAt b dev) out w)
+unfolding litReply answer
+lit-done b dev out w c = go (eqb (codeOf (litRefusals b dev out w)) 0) refl c
+  where
+    go : (t : Bool) → eqb (codeOf (litRefusals b dev out w)) 0 ≡ t → cond t (litDone b dev out w) (refusedWith b (codeOf (litRefusals b dev out w))) .code ≡ 0 → NoneHolds (litRefusals b dev out w) × (cond t (litDone b dev out w) (refusedWith b (codeOf (litRefusals b dev out w))) .value ≡ litOf (deviceAt b dev) out w)
+    go true e z = (accepted 0 (litRefusals b dev out w) refl (eqb-true (codeOf (litRefusals b dev out w)) 0 e), refl)
+    go false e z = absurd (false≢true (sym e ∙ eq-eqb (codeOf (litRefusals b dev out w)) 0 z))
+
+in-limit : (d : Device) (w : ℕ) → isAwake d ≡ true → overruns d w ≡ false → leb (d .count + w) countLimit ≡ true
+unfolding overruns
+in-limit d w a o = not-false (leb (d .count + w) countLimit) (rw a at o)
+
+-- for an awake device, driver or blinker: the number of ticks among t .. t+w-1 at which the lamp's test holds
+pub lit-sum : (b : Bus) (dev out w : ℕ) → litReply b dev out w .code ≡ 0 → isAwake (deviceAt b dev) ≡ true → litReply b dev out w .value ≡ litTicks (lampLit (deviceAt b dev) out) (deviceAt b dev .count) w
+unfolding litOf countedTicks
+lit-sum b dev out w c a =
+    let done = lit-done b dev out w c in
+    let long = or-false (ltb countLimit w) (overruns (deviceAt b dev) w) (done .0 .1 .1 .0) in
+    done .1 ∙ rw (a, in-limit (deviceAt b dev) w a (long .1)) refl
+
+-- ---- what an output follows
+
+follows : (d : Device) (out : ℕ) → isDriver (d .chip) ≡ true → lampLit d out ≡ driverLit (driverOutput d (outputsOf (d .chip)) out)
+unfolding lampLit
+follows d out h = rw h refl
+
+individual-mode : (d : Device) (out N : ℕ) → Individual d out N → driverOutput d (outputsOf (d .chip)) out ≡ Mode.Individual N
+unfolding driverOutput
+individual-mode d out N o = rw (o .mode-is, o .brightness) refl
+
+dimmed-mode : (d : Device) (out M N : ℕ) → Dimmed d out M N → driverOutput d (outputsOf (d .chip)) out ≡ Mode.Dimmed N M
+unfolding driverOutput
+dimmed-mode d out M N o = rw (o .output .mode-is, o .steady, o .output .brightness, o .dimming) refl
+
+-- lit counts by the mode that an awake driver's output follows
+counts : (b : Bus) (dev out w mode N : ℕ) (m : DriverMode) → Output (deviceAt b dev) out mode N → driverOutput (deviceAt b dev) (outputsOf (deviceAt b dev .chip)) out ≡ m → litReply b dev out w .code ≡ 0 → litReply b dev out w .value ≡ litTicks (driverLit m) (deviceAt b dev .count) w
+counts b dev out w mode N m o e c =
+    lit-sum b dev out w c (o .awake)
+    ∙ ap (λ (lit : ℕ → Bool). litTicks lit (deviceAt b dev .count) w) (follows (deviceAt b dev) out (o .driver) ∙ ap driverLit e)
+
+individual-counts : (N : ℕ) (b : Bus) (dev out w : ℕ) → Individual (deviceAt b dev) out N → litReply b dev out w .code ≡ 0 → litReply b dev out w .value ≡ litTicks (driverLit (Mode.Individual N)) (deviceAt b dev .count) w
+individual-counts N b dev out w o c = counts b dev out w 2 N (Mode.Individual N) o (individual-mode (deviceAt b dev) out N o) c
+
+dimmed-counts : (M N : ℕ) (b : Bus) (dev out w : ℕ) → Dimmed (deviceAt b dev) out M N → litReply b dev out w .code ≡ 0 → litReply b dev out w .value ≡ litTicks (driverLit (Mode.Dimmed N M)) (deviceAt b dev .count) w
+dimmed-counts M N b dev out w o c = counts b dev out w 3 N (Mode.Dimmed N M) (o .output) (dimmed-mode (deviceAt b dev) out M N o) c
+
+-- ---- the bounds, over every window
+
+-- S times the lit ticks and w * K differ by at most B
+abbrev pub Within : ℕ → ℕ → ℕ → ℕ → ℕ → Type 0
+Within S K B w lit = (S * lit ≤ w * K + B) × (w * K ≤ S * lit + B)
+
+bounds : (lit : ℕ → Bool) (S K B : ℕ) → Bounded lit S K B → (t w v : ℕ) → v ≡ litTicks lit t w → Within S K B w v
+bounds lit S K B D t w v e = rw e (D .over t w, D .under t w)
+
+pub individual-bound : (N : ℕ) → N < 256 → (b : Bus) (dev out w : ℕ) → Individual (deviceAt b dev) out N → litReply b dev out w .code ≡ 0 → Within 256 N (N * (256 - N)) w (litReply b dev out w .value)
+individual-bound N h b dev out w o c =
+    bounds (driverLit (Mode.Individual N)) 256 N (N * (256 - N)) (individual-duty N h) (deviceAt b dev .count) w (litReply b dev out w .value)
+    (individual-counts N b dev out w o c)
+
+pub dimmed-bound : (M N : ℕ) → M < 256 → N < 256 → (b : Bus) (dev out w : ℕ) → Dimmed (deviceAt b dev) out M N → litReply b dev out w .code ≡ 0 → Within 65536 (M * N) (M * N * (131328 - 512 * M - N)) w (litReply b dev out w .value)
+dimmed-bound M N hM hN b dev out w o c =
+    bounds (driverLit (Mode.Dimmed N M)) 65536 (M * N) (M * N * (131328 - 512 * M - N)) (dimmed-duty M N hM hN) (deviceAt b dev .count) w (litReply b dev out w .value)
+    (dimmed-counts M N b dev out w o c)
+
+-- ---- each bound is reached
+
+-- a window that every such bus answers so: lit is accepted, and its value is this far from the duty
+abbrev pub Reached : (Device → ℕ → Type 0) → (ℕ → ℕ → Type 0) → Type 0
+Reached set far =
+    (t : ℕ) × (w : ℕ) × (t + w ≤ countLimit) × ((b : Bus) (dev out : ℕ) → Stands b dev out t → set (deviceAt b dev) out → (litReply b dev out w .code ≡ 0) × far w (litReply b dev out w .value))
+
+-- lit is accepted where the window ends by the limit
+lit-accepted : (b : Bus) (dev out t w : ℕ) → Stands b dev out t → t + w ≤ countLimit → litReply b dev out w .code ≡ 0
+unfolding litReply answer codeOf overruns
+lit-accepted b dev out t w s h =
+    let e : leb (deviceAt b dev .count + w) countLimit ≡ true = rw (s .at) (le-leb (t + w) countLimit h) in
+    let l : ltb countLimit w ≡ false = le-ltb countLimit w (omega arith) in
+    rw (s .formed, s .there, s .has-output, l, e, and-false (isAwake (deviceAt b dev))) refl
+
+reached : (lit : ℕ → Bool) (set : Device → ℕ → Type 0) (far : ℕ → ℕ → Type 0) → ((b : Bus) (dev out w : ℕ) → set (deviceAt b dev) out → litReply b dev out w .code ≡ 0 → litReply b dev out w .value ≡ litTicks lit (deviceAt b dev .count) w) → (t w : ℕ) → t + w ≤ countLimit → far w (litTicks lit t w) → Reached set far
+reached lit set far count t w h f =
+    (t, w, h, λ b dev out s o.
+      let c = lit-accepted b dev out t w s h in
+      (c, rw (count b dev out w o c, s .at) f))
+
+abbrev pub Above : ℕ → ℕ → ℕ → ℕ → ℕ → Type 0
+Above S K B w lit = S * lit ≡ w * K + B
+
+abbrev pub Below : ℕ → ℕ → ℕ → ℕ → ℕ → Type 0
+Below S K B w lit = w * K ≡ S * lit + B
+
+pub individual-reached : (N : ℕ) → N < 256 → Reached (λ d out. Individual d out N) (Above 256 N (N * (256 - N))) × Reached (λ d out. Individual d out N) (Below 256 N (N * (256 - N)))
+individual-reached N h =
+    let D = individual-duty N h in
+    (
+      reached (driverLit (Mode.Individual N)) (λ d out. Individual d out N) (Above 256 N (N * (256 - N))) (individual-counts N) (D .above .0) (D .above .1) (D .above .2) (D .above .3),
+      reached (driverLit (Mode.Individual N)) (λ d out. Individual d out N) (Below 256 N (N * (256 - N))) (individual-counts N) (D .below .0) (D .below .1) (D .below .2) (D .below .3),
+    )
+
+pub dimmed-reached : (M N : ℕ) → M < 256 → N < 256 → Reached (λ d out. Dimmed d out M N) (Above 65536 (M * N) (M * N * (131328 - 512 * M - N))) × Reached (λ d out. Dimmed d out M N) (Below 65536 (M * N) (M * N * (131328 - 512 * M - N)))
+dimmed-reached M N hM hN =
+    let D = dimmed-duty M N hM hN in
+    let B : ℕ = M * N * (131328 - 512 * M - N) in
+    (
+      reached (driverLit (Mode.Dimmed N M)) (λ d out. Dimmed d out M N) (Above 65536 (M * N) B) (dimmed-counts M N) (D .above .0) (D .above .1) (D .above .2) (D .above .3),
+      reached (driverLit (Mode.Dimmed N M)) (λ d out. Dimmed d out M N) (Below 65536 (M * N) B) (dimmed-counts M N) (D .below .0) (D .below .1) (D .below .2) (D .below .3),
+    )
