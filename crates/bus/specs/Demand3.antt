@@ -1,28 +1,25 @@
 -- Demand 3 on the answers of lit: the bounds for every bus, position, output and length, that each bound is reached, and that the buses that reach it exist.
 -- Once over the number of outputs: a driver's chip is a variable.
 use mathlib.Core.Path.{_≡_, refl, sym, ap, _∙_}
-use mathlib.Core.Bool.{Bool, true, false, not, _&&_, _||_, cond, and-false, true≢false, false≢true}
-use mathlib.Core.List.{List, [], _∷_}
-use Prim.Native.Nat.{ℕ, _+_, _-_, _*_, _/_, _%_, _^_, _≤_, _<_}
+use mathlib.Core.Bool.{Bool, true, false, _||_, cond, and-false, true≢false, false≢true}
+use Prim.Native.Nat.{ℕ, _+_, _-_, _*_, _≤_, _<_}
 use native.Mathlib.Omega.{arith}
 use lib.Dec.{leb, ltb, eqb}
 use borrow.Author.Tests.{eqb-true, eq-eqb, le-leb, le-ltb, not-false}
 use Rattle.lamp.specs.Window.{litTicks, countLimit, countedTicks}
-use Rattle.lamp.specs.Driver.{driverMode, driverLit}
+use Rattle.lamp.specs.Driver.{driverLit}
 use Rattle.lamp.specs.Duty.{Bounded}
 use Rattle.lamp.specs.Promises.{individual-duty, dimmed-duty}
 use Rattle.lamp.specs.declared.DriverMode.{DriverMode}
 use Rattle.lamp.specs.declared.DriverMode.the-variants as Mode
 use Rattle.chip.specs.Kinds.{isDriver, outputsOf}
-use Rattle.chip.specs.Registers.{grppwm, grpfreq, pwm0}
-use Rattle.chip.specs.laws.Logic.{and-left, and-right}
-use Rattle.device.specs.Registers.{inEffect, isAwake, isBlinking}
-use Rattle.device.specs.Output.{ledoutOf, driverOutput, lampLit, litOf}
+use Rattle.device.specs.Registers.{isAwake}
+use Rattle.device.specs.Output.{driverOutput, lampLit, litOf}
 use Rattle.device.specs.Wait.{overruns}
 use Rattle.device.specs.declared.Device.{Device}
 use Rattle.bus.specs.Refusals.{codeOf}
-use Rattle.bus.specs.Bus.{busOk, hasDevice, deviceAt}
-use Rattle.bus.specs.Replies.{refusedWith, answer, isTooLong, isMissing, litRefusals, litDone, litReply}
+use Rattle.bus.specs.Bus.{deviceAt}
+use Rattle.bus.specs.Replies.{refusedWith, answer, litRefusals, litDone, litReply}
 use Rattle.bus.specs.Duty.{Output, Individual, Dimmed, Stands}
 use Rattle.bus.specs.laws.Refusals.{NoneHolds, accepted}
 use Rattle.bus.specs.declared.Bus.{Bus}
@@ -115,10 +112,14 @@ lit-accepted b dev out t w s h =
     rw (s .formed, s .there, s .has-output, l, e, and-false (isAwake (deviceAt b dev))) refl
 
 reached : (lit : ℕ → Bool) (set : Device → ℕ → Type 0) (far : ℕ → ℕ → Type 0) → ((b : Bus) (dev out w : ℕ) → set (deviceAt b dev) out → litReply b dev out w .code ≡ 0 → litReply b dev out w .value ≡ litTicks lit (deviceAt b dev .count) w) → (t w : ℕ) → t + w ≤ countLimit → far w (litTicks lit t w) → Reached set far
-reached lit set far count t w h f =
-    (t, w, h, λ b dev out s o.
+reached lit set far count t w h f = (
+  t,
+  w,
+  h,
+  λ b dev out s o.
       let c = lit-accepted b dev out t w s h in
-      (c, rw (count b dev out w o c, s .at) f))
+      (c, rw (count b dev out w o c, s .at) f),
+)
 
 abbrev pub Above : ℕ → ℕ → ℕ → ℕ → ℕ → Type 0
 Above S K B w lit = S * lit ≡ w * K + B
@@ -128,8 +129,7 @@ Below S K B w lit = w * K ≡ S * lit + B
 
 pub individual-reached : (N : ℕ) → N < 256 → Reached (λ d out. Individual d out N) (Above 256 N (N * (256 - N))) × Reached (λ d out. Individual d out N) (Below 256 N (N * (256 - N)))
 individual-reached N h =
-    let D = individual-duty N h in
-    (
+    let D = individual-duty N h in (
       reached (driverLit (Mode.Individual N)) (λ d out. Individual d out N) (Above 256 N (N * (256 - N))) (individual-counts N) (D .above .0) (D .above .1) (D .above .2) (D .above .3),
       reached (driverLit (Mode.Individual N)) (λ d out. Individual d out N) (Below 256 N (N * (256 - N))) (individual-counts N) (D .below .0) (D .below .1) (D .below .2) (D .below .3),
     )
@@ -137,8 +137,7 @@ individual-reached N h =
 pub dimmed-reached : (M N : ℕ) → M < 256 → N < 256 → Reached (λ d out. Dimmed d out M N) (Above 65536 (M * N) (M * N * (131328 - 512 * M - N))) × Reached (λ d out. Dimmed d out M N) (Below 65536 (M * N) (M * N * (131328 - 512 * M - N)))
 dimmed-reached M N hM hN =
     let D = dimmed-duty M N hM hN in
-    let B : ℕ = M * N * (131328 - 512 * M - N) in
-    (
+    let B : ℕ = M * N * (131328 - 512 * M - N) in (
       reached (driverLit (Mode.Dimmed N M)) (λ d out. Dimmed d out M N) (Above 65536 (M * N) B) (dimmed-counts M N) (D .above .0) (D .above .1) (D .above .2) (D .above .3),
       reached (driverLit (Mode.Dimmed N M)) (λ d out. Dimmed d out M N) (Below 65536 (M * N) B) (dimmed-counts M N) (D .below .0) (D .below .1) (D .below .2) (D .below .3),
     )

@@ -2,7 +2,7 @@
 -- an output's mode is its two LEDOUT bits in effect; N is its PWM register in effect, M is GRPPWM in effect; blinking off is DMBLNK 0.
 use Prim.Native.Nat.{ℕ, _+_}
 use mathlib.Core.Path.{_≡_}
-use mathlib.Core.Bool.{Bool, true, false}
+use mathlib.Core.Bool.{true, false}
 use Rattle.chip.specs.Kinds.{isDriver, outputsOf}
 use Rattle.chip.specs.Registers.{pwm0, grppwm}
 use Rattle.device.specs.Registers.{inEffect, isAwake, isBlinking}

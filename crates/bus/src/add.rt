@@ -7,7 +7,7 @@ ghost use mathlib.Core.Path.{_≡_};
 ghost use Prim.Native.Nat.{_≤_, _<_};
 ghost use Rattle.device.specs.Reset.{fresh};
 ghost use Rattle.bus.specs.Refusals.{codeOf};
-ghost use Rattle.bus.specs.Bus.{withAdded};
+ghost use Rattle.bus.specs.Bus.{busOk, withAdded};
 ghost use Rattle.bus.specs.Replies.{stateRefusals, addRefusals, addedTo, addReply, isUnknown, isBarred};
 
 fn is_unknown(found: Lookup) -> bool
@@ -28,13 +28,14 @@ fn is_barred(found: Lookup, address: u64) -> bool
     }
 }
 
-fn state_code(bus: Bus) -> u64
+fn state_code(ok: bool, bus: Bus) -> u64
+    requires { ⌜ ok ≡ busOk bus ⌝ }
     ensures { λ r. ⌜ r ≡ codeOf (stateRefusals bus) ⌝ }
 {
     let phase = bus.phase;
     if 8 <= bus.count {
         3
-    } else if crate::devices::is_ok(bus) {
+    } else if ok {
         if protocol::after::is_open(phase) {
             5
         } else {
@@ -61,7 +62,8 @@ fn with_added(bus: Bus, chip: Chip, address: u8) -> Bus
     next
 }
 
-fn add_code(bus: Bus, chip: u64, address: u64) -> u64
+fn add_code(ok: bool, bus: Bus, chip: u64, address: u64) -> u64
+    requires { ⌜ ok ≡ busOk bus ⌝ }
     ensures { λ r. ⌜ r ≡ codeOf (addRefusals bus chip address) ⌝ }
 {
     let found = chip::chip_numbered(chip);
@@ -70,7 +72,7 @@ fn add_code(bus: Bus, chip: u64, address: u64) -> u64
     } else if is_barred(found, address) {
         2
     } else {
-        state_code(bus)
+        state_code(ok, bus)
     }
 }
 
@@ -84,10 +86,11 @@ fn added(bus: Bus, found: Lookup, address: u8) -> Bus
     }
 }
 
-pub fn add(bus: Bus, chip: u64, address: u64) -> Reply
+pub fn add(ok: bool, bus: Bus, chip: u64, address: u64) -> Reply
+    requires { ⌜ ok ≡ busOk bus ⌝ }
     ensures { λ r. ⌜ r ≡ addReply bus chip address ⌝ }
 {
-    let code = add_code(bus, chip, address);
+    let code = add_code(ok, bus, chip, address);
     if code == 0 {
         let next = added(bus, chip::chip_numbered(chip), address as u8);
         crate::done(bus.count as u64, next)

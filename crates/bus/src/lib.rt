@@ -6,11 +6,11 @@ ghost use mathlib.Core.Path.{_≡_};
 ghost use Rattle.bus.specs.Bus.{emptyBus};
 ghost use Rattle.bus.specs.Replies.{refusedWith, doneWith};
 
-pub mod add;
+mod add;
+pub mod calls;
 pub mod devices;
-pub mod events;
-pub mod place;
-pub mod signals;
+mod place;
+mod signals;
 
 pub struct Bus {
     pub phase: Phase,

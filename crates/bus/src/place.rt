@@ -3,26 +3,28 @@ use crate::Bus;
 use crate::Reply;
 ghost use mathlib.Core.Path.{_≡_};
 ghost use Rattle.chip.specs.Kinds.{isDriver};
-ghost use Rattle.bus.specs.Bus.{deviceAt};
+ghost use Rattle.bus.specs.Bus.{busOk, deviceAt};
 ghost use Rattle.bus.specs.Refusals.{codeOf};
 ghost use Rattle.bus.specs.Replies.{placeRefusals, waitRefusals, waitReply, levelRefusals, oeRefusals, extRefusals, oeReply, extReply, resetReply, isMissing, isTooLong, litRefusals, litReply, pinRefusals, pinReply, blinkRefusals, blinkReply};
 
 // 3 no device there, 4 a bus that is not well formed.
-fn place_code(bus: Bus, dev: u64) -> u64
+fn place_code(ok: bool, bus: Bus, dev: u64) -> u64
+    requires { ⌜ ok ≡ busOk bus ⌝ }
     ensures { λ r. ⌜ r ≡ codeOf (placeRefusals bus dev) ⌝ }
 {
     if crate::devices::has_device(bus, dev) {
-        if crate::devices::is_ok(bus) { 0 } else { 4 }
+        if ok { 0 } else { 4 }
     } else {
         3
     }
 }
 
-fn wait_code(bus: Bus, dev: u64, ticks: u64) -> u64
+fn wait_code(ok: bool, bus: Bus, dev: u64, ticks: u64) -> u64
+    requires { ⌜ ok ≡ busOk bus ⌝ }
     ensures { λ r. ⌜ r ≡ codeOf (waitRefusals bus dev ticks) ⌝ }
 {
     if crate::devices::has_device(bus, dev) {
-        if crate::devices::is_ok(bus) {
+        if ok {
             if device::wait::overruns(crate::devices::device_at(bus, dev), ticks) {
                 6
             } else {
@@ -36,10 +38,11 @@ fn wait_code(bus: Bus, dev: u64, ticks: u64) -> u64
     }
 }
 
-pub fn wait(bus: Bus, dev: u64, ticks: u64) -> Reply
+pub fn wait(ok: bool, bus: Bus, dev: u64, ticks: u64) -> Reply
+    requires { ⌜ ok ≡ busOk bus ⌝ }
     ensures { λ r. ⌜ r ≡ waitReply bus dev ticks ⌝ }
 {
-    let code = wait_code(bus, dev, ticks);
+    let code = wait_code(ok, bus, dev, ticks);
     if code == 0 {
         let next = device::wait::waited(crate::devices::device_at(bus, dev), ticks);
         crate::done(0, crate::devices::with_device(bus, dev, next))
@@ -48,11 +51,12 @@ pub fn wait(bus: Bus, dev: u64, ticks: u64) -> Reply
     }
 }
 
-fn level_code(bus: Bus, dev: u64, most: u64, level: u64, wrong: bool) -> u64
+fn level_code(ok: bool, bus: Bus, dev: u64, most: u64, level: u64, wrong: bool) -> u64
+    requires { ⌜ ok ≡ busOk bus ⌝ }
     ensures { λ r. ⌜ r ≡ codeOf (levelRefusals bus dev most level wrong) ⌝ }
 {
     if crate::devices::has_device(bus, dev) {
-        if crate::devices::is_ok(bus) {
+        if ok {
             if most < level {
                 7
             } else if wrong {
@@ -76,16 +80,18 @@ fn is_driver(bus: Bus, dev: u64) -> bool
     chip::is_driver(chip)
 }
 
-fn oe_code(bus: Bus, dev: u64, level: u64) -> u64
+fn oe_code(ok: bool, bus: Bus, dev: u64, level: u64) -> u64
+    requires { ⌜ ok ≡ busOk bus ⌝ }
     ensures { λ r. ⌜ r ≡ codeOf (oeRefusals bus dev level) ⌝ }
 {
-    level_code(bus, dev, 1, level, !is_driver(bus, dev))
+    level_code(ok, bus, dev, 1, level, !is_driver(bus, dev))
 }
 
-pub fn oe(bus: Bus, dev: u64, level: u64) -> Reply
+pub fn oe(ok: bool, bus: Bus, dev: u64, level: u64) -> Reply
+    requires { ⌜ ok ≡ busOk bus ⌝ }
     ensures { λ r. ⌜ r ≡ oeReply bus dev level ⌝ }
 {
-    let code = oe_code(bus, dev, level);
+    let code = oe_code(ok, bus, dev, level);
     if code == 0 {
         let next = device::with_oe(crate::devices::device_at(bus, dev), level == 1);
         crate::done(0, crate::devices::with_device(bus, dev, next))
@@ -94,16 +100,18 @@ pub fn oe(bus: Bus, dev: u64, level: u64) -> Reply
     }
 }
 
-fn ext_code(bus: Bus, dev: u64, level: u64) -> u64
+fn ext_code(ok: bool, bus: Bus, dev: u64, level: u64) -> u64
+    requires { ⌜ ok ≡ busOk bus ⌝ }
     ensures { λ r. ⌜ r ≡ codeOf (extRefusals bus dev level) ⌝ }
 {
-    level_code(bus, dev, 255, level, is_driver(bus, dev))
+    level_code(ok, bus, dev, 255, level, is_driver(bus, dev))
 }
 
-pub fn ext(bus: Bus, dev: u64, level: u64) -> Reply
+pub fn ext(ok: bool, bus: Bus, dev: u64, level: u64) -> Reply
+    requires { ⌜ ok ≡ busOk bus ⌝ }
     ensures { λ r. ⌜ r ≡ extReply bus dev level ⌝ }
 {
-    let code = ext_code(bus, dev, level);
+    let code = ext_code(ok, bus, dev, level);
     if code == 0 {
         let next = device::with_levels(crate::devices::device_at(bus, dev), level as u8);
         crate::done(0, crate::devices::with_device(bus, dev, next))
@@ -112,10 +120,11 @@ pub fn ext(bus: Bus, dev: u64, level: u64) -> Reply
     }
 }
 
-pub fn reset(bus: Bus, dev: u64) -> Reply
+pub fn reset(ok: bool, bus: Bus, dev: u64) -> Reply
+    requires { ⌜ ok ≡ busOk bus ⌝ }
     ensures { λ r. ⌜ r ≡ resetReply bus dev ⌝ }
 {
-    let code = place_code(bus, dev);
+    let code = place_code(ok, bus, dev);
     if code == 0 {
         let next = device::reset(crate::devices::device_at(bus, dev));
         crate::done(0, crate::devices::with_device(bus, dev, next))
@@ -142,11 +151,12 @@ fn is_too_long(bus: Bus, dev: u64, ticks: u64) -> bool
     }
 }
 
-fn lit_code(bus: Bus, dev: u64, out: u64, ticks: u64) -> u64
+fn lit_code(ok: bool, bus: Bus, dev: u64, out: u64, ticks: u64) -> u64
+    requires { ⌜ ok ≡ busOk bus ⌝ }
     ensures { λ r. ⌜ r ≡ codeOf (litRefusals bus dev out ticks) ⌝ }
 {
     if crate::devices::has_device(bus, dev) {
-        if crate::devices::is_ok(bus) {
+        if ok {
             if is_too_long(bus, dev, ticks) {
                 6
             } else if is_missing(bus, dev, out) {
@@ -162,10 +172,11 @@ fn lit_code(bus: Bus, dev: u64, out: u64, ticks: u64) -> u64
     }
 }
 
-pub fn lit(bus: Bus, dev: u64, out: u64, ticks: u64) -> Reply
+pub fn lit(ok: bool, bus: Bus, dev: u64, out: u64, ticks: u64) -> Reply
+    requires { ⌜ ok ≡ busOk bus ⌝ }
     ensures { λ r. ⌜ r ≡ litReply bus dev out ticks ⌝ }
 {
-    let code = lit_code(bus, dev, out, ticks);
+    let code = lit_code(ok, bus, dev, out, ticks);
     if code == 0 {
         let value = device::output::lit(crate::devices::device_at(bus, dev), out as u8, ticks);
         crate::done(value, bus)
@@ -174,11 +185,12 @@ pub fn lit(bus: Bus, dev: u64, out: u64, ticks: u64) -> Reply
     }
 }
 
-fn pin_code(bus: Bus, dev: u64, out: u64) -> u64
+fn pin_code(ok: bool, bus: Bus, dev: u64, out: u64) -> u64
+    requires { ⌜ ok ≡ busOk bus ⌝ }
     ensures { λ r. ⌜ r ≡ codeOf (pinRefusals bus dev out) ⌝ }
 {
     if crate::devices::has_device(bus, dev) {
-        if crate::devices::is_ok(bus) {
+        if ok {
             if is_missing(bus, dev, out) { 9 } else { 0 }
         } else {
             4
@@ -188,10 +200,11 @@ fn pin_code(bus: Bus, dev: u64, out: u64) -> u64
     }
 }
 
-pub fn pin(bus: Bus, dev: u64, out: u64) -> Reply
+pub fn pin(ok: bool, bus: Bus, dev: u64, out: u64) -> Reply
+    requires { ⌜ ok ≡ busOk bus ⌝ }
     ensures { λ r. ⌜ r ≡ pinReply bus dev out ⌝ }
 {
-    let code = pin_code(bus, dev, out);
+    let code = pin_code(ok, bus, dev, out);
     if code == 0 {
         let value = device::output::pin(crate::devices::device_at(bus, dev), out as u8);
         crate::done(value, bus)
@@ -200,11 +213,12 @@ pub fn pin(bus: Bus, dev: u64, out: u64) -> Reply
     }
 }
 
-fn blink_code(bus: Bus, dev: u64) -> u64
+fn blink_code(ok: bool, bus: Bus, dev: u64) -> u64
+    requires { ⌜ ok ≡ busOk bus ⌝ }
     ensures { λ r. ⌜ r ≡ codeOf (blinkRefusals bus dev) ⌝ }
 {
     if crate::devices::has_device(bus, dev) {
-        if crate::devices::is_ok(bus) {
+        if ok {
             if is_driver(bus, dev) { 10 } else { 0 }
         } else {
             4
@@ -215,10 +229,11 @@ fn blink_code(bus: Bus, dev: u64) -> u64
 }
 
 // The blink-start question: the steps after which both blinks of a blinker begin together again.
-pub fn blink_start(bus: Bus, dev: u64) -> Reply
+pub fn blink_start(ok: bool, bus: Bus, dev: u64) -> Reply
+    requires { ⌜ ok ≡ busOk bus ⌝ }
     ensures { λ r. ⌜ r ≡ blinkReply bus dev ⌝ }
 {
-    let code = blink_code(bus, dev);
+    let code = blink_code(ok, bus, dev);
     if code == 0 {
         let value = device::start::common_start(crate::devices::device_at(bus, dev));
         crate::done(value, bus)

@@ -4,14 +4,16 @@ use crate::Reply;
 use protocol::Signal;
 ghost use mathlib.Core.Path.{_≡_};
 ghost use Prim.Native.Nat.{_≤_};
+ghost use Rattle.bus.specs.Bus.{busOk};
 ghost use Rattle.bus.specs.Refusals.{codeOf};
 ghost use Rattle.bus.specs.Replies.{signalRefusals, signalReply, startReply, stopReply, putRefusals, putValue, putDone, putReply, getRefusals, getDone, getReply};
 
-fn signal_code(bus: Bus, signal: Signal) -> u64
+fn signal_code(ok: bool, bus: Bus, signal: Signal) -> u64
+    requires { ⌜ ok ≡ busOk bus ⌝ }
     ensures { λ r. ⌜ r ≡ codeOf (signalRefusals bus signal) ⌝ }
 {
     let phase = bus.phase;
-    if crate::devices::is_ok(bus) {
+    if ok {
         if protocol::after::in_turn(phase, signal) {
             0
         } else {
@@ -23,10 +25,11 @@ fn signal_code(bus: Bus, signal: Signal) -> u64
 }
 
 // A signal with no value.
-fn signalled(bus: Bus, signal: Signal) -> Reply
+fn signalled(ok: bool, bus: Bus, signal: Signal) -> Reply
+    requires { ⌜ ok ≡ busOk bus ⌝ }
     ensures { λ r. ⌜ r ≡ signalReply bus signal ⌝ }
 {
-    let code = signal_code(bus, signal);
+    let code = signal_code(ok, bus, signal);
     if code == 0 {
         crate::done(0, crate::devices::after(signal, bus))
     } else {
@@ -34,23 +37,26 @@ fn signalled(bus: Bus, signal: Signal) -> Reply
     }
 }
 
-pub fn start(bus: Bus) -> Reply
+pub fn start(ok: bool, bus: Bus) -> Reply
+    requires { ⌜ ok ≡ busOk bus ⌝ }
     ensures { λ r. ⌜ r ≡ startReply bus ⌝ }
 {
-    signalled(bus, Signal::Start)
+    signalled(ok, bus, Signal::Start)
 }
 
-pub fn stop(bus: Bus) -> Reply
+pub fn stop(ok: bool, bus: Bus) -> Reply
+    requires { ⌜ ok ≡ busOk bus ⌝ }
     ensures { λ r. ⌜ r ≡ stopReply bus ⌝ }
 {
-    signalled(bus, Signal::Stop)
+    signalled(ok, bus, Signal::Stop)
 }
 
-fn put_code(bus: Bus, byte: u64) -> u64
+fn put_code(ok: bool, bus: Bus, byte: u64) -> u64
+    requires { ⌜ ok ≡ busOk bus ⌝ }
     ensures { λ r. ⌜ r ≡ codeOf (putRefusals bus byte) ⌝ }
 {
     let phase = bus.phase;
-    if crate::devices::is_ok(bus) {
+    if ok {
         if protocol::after::in_turn(phase, Signal::Put(0)) {
             if 255 < byte { 7 } else { 0 }
         } else {
@@ -81,10 +87,11 @@ fn put_done(bus: Bus, byte: u8) -> Reply
     )
 }
 
-pub fn put(bus: Bus, byte: u64) -> Reply
+pub fn put(ok: bool, bus: Bus, byte: u64) -> Reply
+    requires { ⌜ ok ≡ busOk bus ⌝ }
     ensures { λ r. ⌜ r ≡ putReply bus byte ⌝ }
 {
-    let code = put_code(bus, byte);
+    let code = put_code(ok, bus, byte);
     if code == 0 {
         put_done(bus, byte as u8)
     } else {
@@ -92,11 +99,12 @@ pub fn put(bus: Bus, byte: u64) -> Reply
     }
 }
 
-fn get_code(bus: Bus, ack: u64) -> u64
+fn get_code(ok: bool, bus: Bus, ack: u64) -> u64
+    requires { ⌜ ok ≡ busOk bus ⌝ }
     ensures { λ r. ⌜ r ≡ codeOf (getRefusals bus ack) ⌝ }
 {
     let phase = bus.phase;
-    if crate::devices::is_ok(bus) {
+    if ok {
         if protocol::after::in_turn(phase, Signal::Get(true)) {
             if 1 < ack { 7 } else { 0 }
         } else {
@@ -116,10 +124,11 @@ fn get_done(bus: Bus, ack: bool) -> Reply
     crate::done(byte as u64, crate::devices::after(Signal::Get(ack), bus))
 }
 
-pub fn get(bus: Bus, ack: u64) -> Reply
+pub fn get(ok: bool, bus: Bus, ack: u64) -> Reply
+    requires { ⌜ ok ≡ busOk bus ⌝ }
     ensures { λ r. ⌜ r ≡ getReply bus ack ⌝ }
 {
-    let code = get_code(bus, ack);
+    let code = get_code(ok, bus, ack);
     if code == 0 {
         get_done(bus, ack == 1)
     } else {

@@ -11,16 +11,15 @@ returns c = simp (le-leb _ _ (c .if1 .taken))
 
 returns-2 : tie.Need-returns-2
 unfolding codeOf
-returns-2 c = simp (sym (c .before .is-open .ensures) ∙ c .if3 .taken, sym (c .before .before .before .is-ok .ensures) ∙ c .before .before .if2 .taken, lt-leb _ _ (c .before .before .before .before .if1 .left))
+returns-2 c = simp (sym (c .before .is-open .ensures) ∙ c .if3 .taken, sym (c .before .before .before .before .before .pre) ∙ c .before .before .if2 .taken, lt-leb _ _ (c .before .before .before .if1 .left))
 
 returns-3 : tie.Need-returns-3
 unfolding codeOf
-returns-3 c = simp (sym (c .before .is-open .ensures) ∙ c .if3 .left, sym (c .before .before .before .is-ok .ensures) ∙ c .before .before .if2 .taken, lt-leb _ _ (c .before .before .before .before .if1 .left))
+returns-3 c = simp (sym (c .before .is-open .ensures) ∙ c .if3 .left, sym (c .before .before .before .before .before .pre) ∙ c .before .before .if2 .taken, lt-leb _ _ (c .before .before .before .if1 .left))
 
 returns-4 : tie.Need-returns-4
 unfolding codeOf
-returns-4 c = simp (sym (c .before .is-ok .ensures) ∙ c .if2 .left, lt-leb _ _ (c .before .before .if1 .left))
+returns-4 c = simp (sym (c .before .before .before .pre) ∙ c .if2 .left, lt-leb _ _ (c .before .if1 .left))
 
 pub state-code-spec : {M : Type 1} → statement M
-state-code-spec =
-    tie.close (tie.spec (λ c κs. search needs) (λ c κs. search needs) returns returns-2 returns-3 returns-4)
+state-code-spec = tie.close (tie.spec (λ c κs. search needs) returns returns-2 returns-3 returns-4)

@@ -1,8 +1,8 @@
 use borrow.Author.Tests.{ne-eqb}
 use Rattle.bus.specs.Events.{numberedReply}
 use borrow.Author.Needs.{needs}
-use Rattle.bus.proofs.events.numbered.Statement.{statement}
-use Rattle.bus.proofs.events.numbered.Tie as tie
+use Rattle.bus.proofs.calls.numbered.Statement.{statement}
+use Rattle.bus.proofs.calls.numbered.Tie as tie
 
 returns : tie.Need-returns
 unfolding numberedReply
