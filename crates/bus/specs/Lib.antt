@@ -7,3 +7,4 @@ pub mod Duty
 pub mod laws
 pub mod Promises
 pub mod Demand3
+pub mod Witness
