@@ -6,3 +6,4 @@ pub mod Stop
 pub mod Signal
 pub mod laws
 pub mod Promises
+pub mod Guarantees

@@ -1,0 +1,130 @@
+-- The failures of earlier versions cannot recur: a shared call address is heard; nothing of a message takes effect before its STOP while OCH is 0; and at the STOP all of it does.
+-- The third failure, lit time by rounding, is met by lit's answers being the tick-by-tick sum (crate `bus`).
+use mathlib.Core.Path.{_≡_, refl, _∙_}
+use mathlib.Core.Bool.{Bool, true, false, _&&_, _||_, cond, and-false, true≢false}
+use mathlib.Core.List.{List, [], _∷_}
+use Prim.Native.Nat.{ℕ, _/_, _%_, _<_}
+use native.Mathlib.Omega.{arith}
+use lib.Dec.{eqb, ltb, leb}
+use borrow.Author.Tests.{eq-eqb, ne-eqb, ltb-true}
+use Rattle.chip.specs.Kinds.{isDriver, outputsOf}
+use Rattle.chip.specs.Registers.{mode1, pwm0, subadr1, allcalladr, inBuffer, isBuffered}
+use Rattle.chip.specs.Control.{controlLegal, controlMoved}
+use Rattle.chip.specs.laws.Logic.{and-right, by-cases}
+use Rattle.chip.specs.declared.Chip.{Chip}
+use Rattle.chip.specs.declared.Chip.the-variants.{Pca9635, Pca9634, Pca9531, Pca9551}
+use Rattle.device.specs.Fields.{withStage, withControl}
+use Rattle.device.specs.Registers.{bit, held, inEffect, pointer, isAwake, isOch}
+use Rattle.device.specs.declared.Device.{Device}
+use Rattle.device.specs.declared.Phase.{Phase}
+use Rattle.device.specs.declared.Phase.the-variants as P
+use Rattle.device.specs.declared.Stage.{Stage}
+use Rattle.device.specs.declared.Stage.the-variants.{Unselected, Control, Data, Talking, ResetCall, ResetFirst, ResetBoth}
+use Rattle.protocol.specs.Selection.{ownAddress, answersShared, answers, stageAfter}
+use Rattle.protocol.specs.Write.{pointedAt, effectiveAfter, storedIn, takenAt, takenBy}
+use Rattle.protocol.specs.Put.{isSelected, heardBy, acksTo}
+use Rattle.protocol.specs.Read.{isTalking, movedOn, gottenFrom}
+use Rattle.protocol.specs.Stop.{committedAt, committed, effectOfStop, tookReset, stoppedOf}
+use Rattle.protocol.specs.Signal.{phaseAfterSignal, deviceAfter}
+use Rattle.protocol.specs.laws.Lists.{getD-tabulate}
+use Rattle.protocol.specs.declared.Signal.{Signal}
+use Rattle.protocol.specs.declared.Signal.the-variants.{Start, Stop, Put, Get}
+
+-- ---- shared call addresses
+
+-- a driver with ALLCALL set acknowledges the address in ALLCALLADR, whatever its own address is, awake or asleep, for reads and writes alike
+pub all-call-heard : (d : Device) (byte : ℕ) → isDriver (d .chip) ≡ true → bit 0 (held d mode1) ≡ true → held d (allcalladr (outputsOf (d .chip))) / 2 ≡ byte / 2 → (byte / 2 ≡ 3 → ⊥) → acksTo P.Address byte d ≡ true
+unfolding acksTo stageAfter answers answersShared
+all-call-heard d byte driver call e other =
+    rw (ne-eqb (byte / 2) 3 other, driver, call, eq-eqb (held d (allcalladr (outputsOf (d .chip))) / 2) (byte / 2) e)
+    (go (eqb (ownAddress d) (byte / 2)) (eqb (byte % 2) 0))
+  where
+    go : (own even : Bool) → isSelected (cond (own || true) (cond even Control Talking) Unselected) ≡ true
+    go true true = refl
+    go true false = refl
+    go false true = refl
+    go false false = refl
+
+-- ---- nothing before STOP
+
+stored-same : (byte : ℕ) (d : Device) → isOch d ≡ false → storedIn byte d .effective ≡ d .effective
+unfolding storedIn effectiveAfter
+stored-same byte d o = rw (o, and-false (isBuffered (d .chip) (pointer d) && isAwake d)) refl
+
+pointed-same : (byte : ℕ) (d : Device) → pointedAt byte d .effective ≡ d .effective
+unfolding pointedAt
+pointed-same byte d =
+    by-cases (λ (x : Device). x .effective ≡ d .effective) (controlLegal (d .chip) byte) (withControl (withStage d Data) byte) (withStage d Unselected) (λ e. refl) (λ e. refl)
+
+taken-same : (byte : ℕ) (d : Device) (s : Stage) → isOch d ≡ false → takenAt s byte d .effective ≡ d .effective
+taken-same byte d Unselected o = refl
+taken-same byte d Control o = pointed-same byte d
+taken-same byte d Data o = stored-same byte d o
+taken-same byte d Talking o = refl
+taken-same byte d ResetCall o = refl
+taken-same byte d ResetFirst o = refl
+taken-same byte d ResetBoth o = refl
+
+put-same : (p : Phase) (byte : ℕ) (d : Device) → isOch d ≡ false → heardBy p byte d .effective ≡ d .effective
+unfolding heardBy takenBy
+put-same P.Address byte d o = refl
+put-same P.Write byte d o = taken-same byte d (d .stage) o
+put-same P.Idle byte d o = refl
+put-same P.Read byte d o = refl
+put-same P.Ended byte d o = refl
+
+moved-same : (d : Device) → movedOn d .effective ≡ d .effective
+unfolding movedOn
+moved-same d = by-cases (λ (x : Device). x .effective ≡ d .effective) (isTalking (d .stage)) (withControl d (controlMoved (d .chip) (d .control))) d (λ e. refl) (λ e. refl)
+
+get-same : (ack : Bool) (d : Device) → gottenFrom ack d .effective ≡ d .effective
+unfolding gottenFrom
+get-same true d = moved-same d
+get-same false d = moved-same d
+
+abbrev pub isStop : Signal → Bool
+isStop Start = false
+isStop Stop = true
+isStop (Put byte) = false
+isStop (Get ack) = false
+
+-- with OCH 0 no signal but STOP changes what is in effect
+pub before-stop-same : (p : Phase) (s : Signal) (d : Device) → isOch d ≡ false → isStop s ≡ false → deviceAfter p s d .effective ≡ d .effective
+unfolding deviceAfter
+before-stop-same p Start d o n = refl
+before-stop-same p Stop d o n = absurd (true≢false n)
+before-stop-same p (Put byte) d o n = put-same p byte d o
+before-stop-same p (Get ack) d o n = get-same ack d
+
+-- a device after a run of signals
+abbrev pub deviceAfterAll : Phase → Device → List Signal → Device
+deviceAfterAll p d [] = d
+deviceAfterAll p d (s ∷ l) = deviceAfterAll (phaseAfterSignal p s) (deviceAfter p s d) l
+
+-- no STOP among the signals, and OCH 0 at each of them
+abbrev pub OpenWithoutOch : Phase → Device → List Signal → Type 0
+OpenWithoutOch p d [] = Unit {0}
+OpenWithoutOch p d (s ∷ l) = (isOch d ≡ false) × (isStop s ≡ false) × OpenWithoutOch (phaseAfterSignal p s) (deviceAfter p s d) l
+
+-- so a half-sent table is never shown
+pub half-sent-hidden : (p : Phase) (d : Device) (l : List Signal) → OpenWithoutOch p d l → deviceAfterAll p d l .effective ≡ d .effective
+half-sent-hidden p d [] h = refl
+half-sent-hidden p d (s ∷ l) h =
+    half-sent-hidden (phaseAfterSignal p s) (deviceAfter p s d) l (h .2) ∙ before-stop-same p s d (h .0) (h .1)
+
+-- ---- all of it at STOP
+
+few-registers : (chip : Chip) → subadr1 (outputsOf chip) < 28
+few-registers Pca9635 = omega arith
+few-registers Pca9634 = omega arith
+few-registers Pca9531 = omega arith
+few-registers Pca9551 = omega arith
+
+-- after a STOP an awake driver that is not reset by it has PWM0 through LEDOUT in effect as written
+pub all-shown-at-stop : (d : Device) (r : ℕ) → isDriver (d .chip) ≡ true → isAwake d ≡ true → tookReset (d .stage) ≡ false → isBuffered (d .chip) r ≡ true → inEffect (stoppedOf d) r ≡ held d r
+unfolding stoppedOf effectOfStop inEffect isBuffered committed
+all-shown-at-stop d r driver awake kept buffered =
+    let inside : inBuffer (outputsOf (d .chip)) r ≡ true = rw driver at buffered in
+    let below : r < 28 = omega (arith, few-registers (d .chip), ltb-true r (subadr1 (outputsOf (d .chip))) (and-right (leb pwm0 r) (ltb r (subadr1 (outputsOf (d .chip)))) inside)) in
+    rw (driver, kept, awake)
+    (rw (driver, inside) (getD-tabulate 28 (committedAt (outputsOf (d .chip)) (d .written) (d .effective)) r below ∙ rw inside refl))
