@@ -144,7 +144,7 @@ fn is_missing(bus: Bus, dev: u64, out: u64) -> bool
 fn is_too_long(bus: Bus, dev: u64, ticks: u64) -> bool
     ensures { λ r. ⌜ r ≡ isTooLong bus dev ticks ⌝ }
 {
-    if 281474976710656 < ticks {
+    if lamp::LIMIT < ticks {
         true
     } else {
         device::wait::overruns(crate::devices::device_at(bus, dev), ticks)

@@ -11,7 +11,7 @@ pub fn is_ok(d: Device) -> bool
     let chip = d.chip;
     if chip::control::is_legal(chip, d.control) {
         if chip::address_allowed(chip, d.address as u64) {
-            d.count <= 281474976710656
+            d.count <= lamp::LIMIT
         } else {
             false
         }

@@ -9,7 +9,7 @@ ghost use Rattle.lamp.specs.Blinker.{stepCount, blinkerLit};
 mod count;
 
 // The largest count that a device reaches, 2 ^ 48.
-const LIMIT: u64 = 281474976710656;
+pub const LIMIT: u64 = 281474976710656;
 
 // Ticks of a driver's oscillator, 40 ns each.
 pub struct DriverTicks(pub u64);
