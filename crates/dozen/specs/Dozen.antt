@@ -1,0 +1,115 @@
+-- The twelve marked examples of 01 ("the proved dozen"): one table, one test, one claim.
+use mathlib.Core.Path.{_≡_, refl}
+use mathlib.Core.Bool.{Bool, true, false, _&&_}
+use mathlib.Core.List.{List, [], _∷_, _++_}
+use Prim.Native.Nat.{ℕ, _+_, _*_, _-_}
+use lib.Dec.{eqb}
+use Rattle.blink.specs.Start.{euclid, gcdOf, lcmOf, commonStart}
+use Rattle.bus.specs.Bus.{emptyBus, busOk}
+use Rattle.bus.specs.Events.{stepReply, stepRefusals, stepDone, numberedReply}
+use Rattle.bus.specs.First.{mapFirst, allFirst, maskFirst, andFirst}
+use Rattle.bus.specs.Refusals.{codeOf}
+use Rattle.bus.specs.Replies.{answer, signalReply, putReply, getReply, addReply, waitReply, oeReply, extReply, resetReply, litReply, pinReply, blinkReply}
+use Rattle.chip.specs.Addresses.{addressAllowed}
+use Rattle.chip.specs.Control.{controlLegal, controlMoved}
+use Rattle.chip.specs.Registers.{pointed, isBuffered}
+use Rattle.chip.specs.Values.{resetRegisters, storedByte, readByte}
+use Rattle.device.specs.Output.{driverOutput, blinkerOutput, lampLit, litOf, pinOf, bits, inputByte}
+use Rattle.device.specs.Registers.{inEffect, isAwake}
+use Rattle.device.specs.Reset.{resetOf}
+use Rattle.device.specs.Wait.{overruns, advanced, waitedOf}
+use Rattle.device.specs.WellFormed.{recordOk, wellFormed}
+use Rattle.lamp.specs.Blinker.{litBelow, litFrom, blinkerLit}
+use Rattle.lamp.specs.Driver.{individual, grouped, driverLit}
+use Rattle.lamp.specs.Window.{litTicks, countedTicks}
+use Rattle.protocol.specs.Put.{heardBy, acksTo}
+use Rattle.protocol.specs.Read.{registerByte, pointedByte, talkOf, movedOn, gottenFrom}
+use Rattle.protocol.specs.Selection.{ownAddress, answersShared, answers, stageAfter}
+use Rattle.protocol.specs.Signal.{phaseAfterSignal, deviceAfter}
+use Rattle.protocol.specs.Stop.{tabulate, committed, effectOfStop, stoppedOf}
+use Rattle.protocol.specs.Write.{pointedAt, newByte, effectiveAfter, wakes, countAfter, storedIn, takenBy, acksData}
+use Rattle.bus.specs.declared.Bus.{Bus}
+use Rattle.bus.specs.declared.Event.{Event}
+use Rattle.bus.specs.declared.Event.the-variants.{Add, Start, Stop, Put, Get, Wait, Lit}
+use Rattle.bus.specs.declared.Reply.{Reply}
+
+-- an event, or the blink-start question, with the value asked for it; every code in the table is 0
+pub data Step : Type 0 where
+  on : Event → ℕ → Step
+  blinks : ℕ → ℕ → Step
+
+abbrev pub replyTo : Bus → Step → Reply
+replyTo b (on e v) = stepReply b e
+replyTo b (blinks dev v) = blinkReply b dev
+
+abbrev pub valueOf : Step → ℕ
+valueOf (on e v) = v
+valueOf (blinks dev v) = v
+
+-- each step is accepted and answered with its value, one after the other from a bus
+unfoldable pub passes : Bus → List Step → Bool
+passes b [] = true
+passes b (s ∷ l) = eqb (replyTo b s .code) 0 && eqb (replyTo b s .value) (valueOf s) && passes (replyTo b s .bus) l
+
+-- ---- messages
+
+-- a write to the board at the 7-bit address 21, every byte acknowledged
+abbrev written : List Step → List Step
+written bytes = on Start 0 ∷ on (Put 42) 1 ∷ bytes ++ on Stop 0 ∷ []
+
+abbrev byte : ℕ → Step
+byte x = on (Put x) 1
+
+-- the board's register at this control byte reads as v
+abbrev reads : ℕ → ℕ → List Step
+reads control v =
+    on Start 0 ∷ on (Put 42) 1 ∷ on (Put control) 1 ∷ on Start 0 ∷ on (Put 43) 1 ∷ on (Get 0) v ∷ on Stop 0 ∷ []
+
+-- a PCA9635 awake, output 0 at brightness 64 in this mode, GRPPWM 1
+abbrev lamp : ℕ → List Step
+lamp ledout = on (Add 9635 21) 0 ∷ written (byte 128 ∷ byte 1 ∷ []) ++ written (byte 2 ∷ byte 64 ∷ []) ++ written (byte 18 ∷ byte 1 ∷ byte 1 ∷ []) ++ written (byte 20 ∷ byte ledout ∷ [])
+
+-- ---- the table
+
+unfoldable pub table : List (List Step)
+table =
+    -- 1. fresh 9635, two gets: 91h, 05h
+    (on (Add 9635 21) 0 ∷ on Start 0 ∷ on (Put 43) 1 ∷ on (Get 1) 145 ∷ on (Get 0) 5 ∷ [])
+    -- 2. control 9Bh legal on 9635, 9Ch not
+    ∷ (on (Add 9635 21) 0 ∷ on Start 0 ∷ on (Put 42) 1 ∷ on (Put 155) 1 ∷ on Start 0 ∷ on (Put 42) 1 ∷ on (Put 156) 0 ∷ [])
+    -- 3. 9634, option 111: 0Bh goes to 02h. EBh, then a byte for GRPFREQ and one that lands in PWM0
+    ∷ (on (Add 9634 21) 0 ∷ written (byte 235 ∷ byte 7 ∷ byte 9 ∷ []) ++ reads 2 9)
+    -- 4. the same: 11h goes to 00h. F1h, then a byte for ALLCALLADR and one that lands in MODE1
+    ∷ (on (Add 9634 21) 0 ∷ written (byte 241 ∷ byte 224 ∷ byte 1 ∷ []) ++ reads 0 1)
+    -- 5. 06 A5 5A STOP resets; 06 A5 5A 00 STOP doesn't
+    ∷ (on (Add 9635 21) 0 ∷ written (byte 2 ∷ byte 64 ∷ []) ++ on Start 0 ∷ byte 6 ∷ byte 165 ∷ byte 90 ∷ on Stop 0 ∷ reads 2 0)
+    ∷ (on (Add 9635 21) 0 ∷ written (byte 2 ∷ byte 64 ∷ []) ++ on Start 0 ∷ byte 6 ∷ byte 165 ∷ byte 90 ∷ on (Put 0) 0 ∷ on Stop 0 ∷ reads 2 64)
+    -- 6. E3h into SUBADR1 reads E2h
+    ∷ (on (Add 9635 21) 0 ∷ written (byte 24 ∷ byte 227 ∷ []) ++ reads 24 226)
+    -- 7. N=64, t=0, w=100: 64 lit
+    ∷ (lamp 2 ++ on (Lit 0 0 100) 64 ∷ [])
+    -- 8. N=64, t=64, w=192: 0 lit
+    ∷ (lamp 2 ++ on (Wait 0 64) 0 ∷ on (Lit 0 0 192) 0 ∷ [])
+    -- 9. M=1, N=64, t=0, w=320: 128 lit
+    ∷ (lamp 3 ++ on (Lit 0 0 320) 128 ∷ [])
+    -- 10. 9531 in BLINK0, PSC0 1, PWM0 128: 256 lit of 512
+    ∷ (on (Add 9531 5) 0 ∷ on Start 0 ∷ on (Put 202) 1 ∷ byte 17 ∷ byte 1 ∷ byte 128 ∷ on Start 0 ∷ on (Put 202) 1 ∷ byte 5 ∷ byte 2 ∷ on Stop 0 ∷ on (Lit 0 0 512) 256 ∷ [])
+    -- 11. 9551 in BLINK0, PWM0 0: always lit
+    ∷ (on (Add 9551 5) 0 ∷ on Start 0 ∷ on (Put 202) 1 ∷ byte 17 ∷ byte 0 ∷ byte 0 ∷ on Start 0 ∷ on (Put 202) 1 ∷ byte 5 ∷ byte 2 ∷ on Stop 0 ∷ on (Lit 0 0 600) 600 ∷ [])
+    -- 12. PSC 5 and 3: blink starts meet after 3,072 steps
+    ∷ (on (Add 9531 5) 0 ∷ on Start 0 ∷ on (Put 202) 1 ∷ byte 17 ∷ byte 5 ∷ byte 128 ∷ byte 3 ∷ on Stop 0 ∷ blinks 0 3072 ∷ [])
+    ∷ []
+
+-- the bounds that examples 8 and 9 reach: 256 times 0 is 12,288 below 192 times 64, and 65,536 times 128 is 8,368,128 above 320 times 64
+abbrev pub boundsReached : Bool
+boundsReached =
+    eqb (192 * 64) (256 * 0 + 12288) && eqb (64 * (256 - 64)) 12288
+    && eqb (65536 * 128) (320 * 64 + 8368128) && eqb (64 * (131328 - 512 * 1 - 64)) 8368128
+
+unfoldable pub allPass : List (List Step) → Bool
+allPass [] = true
+allPass (row ∷ l) = passes emptyBus row && allPass l
+
+pub dozen : (allPass table && boundsReached) ≡ true
+unfolding allPass table passes euclid gcdOf lcmOf commonStart busOk stepReply stepRefusals stepDone numberedReply mapFirst allFirst maskFirst andFirst codeOf answer signalReply putReply getReply addReply waitReply oeReply extReply resetReply litReply pinReply blinkReply addressAllowed controlLegal controlMoved pointed isBuffered resetRegisters storedByte readByte driverOutput blinkerOutput lampLit litOf pinOf bits inputByte inEffect isAwake resetOf overruns advanced waitedOf recordOk wellFormed litBelow litFrom blinkerLit individual grouped driverLit litTicks countedTicks heardBy acksTo registerByte pointedByte talkOf movedOn gottenFrom ownAddress answersShared answers stageAfter phaseAfterSignal deviceAfter tabulate committed effectOfStop stoppedOf pointedAt newByte effectiveAfter wakes countAfter storedIn takenBy acksData
+dozen = refl

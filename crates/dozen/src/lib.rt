@@ -1,0 +1,1 @@
+// The marked examples of 01 are in specs/.
