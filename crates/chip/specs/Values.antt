@@ -1,6 +1,6 @@
 -- What registers hold after reset, what a write leaves in one, and what a stored byte reads as (01, "Register maps").
-use Prim.Native.Nat.{ℕ, _+_, _*_, _/_, _%_, _-_}
-use mathlib.Core.Bool.{Bool, true, false, cond}
+use Prim.Native.Nat.{ℕ, _+_, _*_, _/_, _%_}
+use mathlib.Core.Bool.{cond}
 use mathlib.Core.List.{List, [], _∷_, _++_}
 use lib.Dec.{leb, eqb}
 use lib.ListN.{replicate}

@@ -1,6 +1,6 @@
 -- What an output follows, whether it is lit, for how many ticks, and the level of its pin (01, "When a lamp is lit").
-use Prim.Native.Nat.{ℕ, zero, suc, _+_, _*_, _/_, _%_, _^_}
-use mathlib.Core.Bool.{Bool, true, false, not, _&&_, cond}
+use Prim.Native.Nat.{ℕ, zero, suc, _+_, _/_, _%_, _^_}
+use mathlib.Core.Bool.{Bool, not, _&&_, cond}
 use lib.Dec.{eqb}
 use Rattle.lamp.specs.Window.{countedTicks}
 use Rattle.lamp.specs.Driver.{driverMode, driverLit}

@@ -1,6 +1,5 @@
 use Rattle.device.specs.Output.{lampLit}
 use mathlib.Core.Path.{sym, _∙_}
-use Rattle.lamp.specs.Window.{countedTicks}
 use borrow.Author.Needs.{needs}
 use Rattle.device.proofs.output.counted.Statement.{statement}
 use Rattle.device.proofs.output.counted.Tie as tie

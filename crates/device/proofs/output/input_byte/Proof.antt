@@ -4,7 +4,6 @@ use Prim.Native.Nat.{_-_, _^_, _≤_, _<_}
 use native.Mathlib.Omega.{arith}
 use Rattle.device.specs.Output.{bits, inputBit, inputByte}
 use Rattle.device.proofs.Laws.{weight-more, weight-most, weight-of-bit, bits-none, bits-more}
-use borrow.Author.Tests.{le-ltb}
 use Rattle.device.proofs.output.input_byte.Statement.{statement}
 use Rattle.device.proofs.output.input_byte.Tie as tie
 

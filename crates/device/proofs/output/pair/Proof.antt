@@ -2,7 +2,6 @@ use mathlib.Core.Path.{_≡_}
 use Prim.Native.Nat.{_%_}
 use native.Mathlib.Omega.{arith}
 use native.Mathlib.Nat.{div-one}
-use borrow.Author.Tests.{eq-eqb, ne-eqb}
 use Rattle.device.proofs.output.pair.Statement.{statement}
 use Rattle.device.proofs.output.pair.Tie as tie
 

@@ -1,5 +1,4 @@
 use lib.ListN.{List·getD-eq-default}
-use borrow.Author.Tests.{le-ltb}
 use borrow.Author.Needs.{needs}
 use Rattle.device.proofs.registers.at.Statement.{statement}
 use Rattle.device.proofs.registers.at.Tie as tie

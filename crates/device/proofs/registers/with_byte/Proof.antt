@@ -1,5 +1,4 @@
 use lib.Seq.{set-out}
-use borrow.Author.Tests.{le-ltb}
 use borrow.Author.Needs.{needs}
 use Rattle.device.proofs.registers.with_byte.Statement.{statement}
 use Rattle.device.proofs.registers.with_byte.Tie as tie

@@ -1,0 +1,171 @@
+//! Comparison of an external program with the model on generated logs.
+
+use crate::{generate, text};
+use std::io::{self, Write};
+use std::process::{Command, Stdio};
+use std::thread;
+
+/// Shares of damage that the seeds take in turn.
+const DAMAGE_SHARES: [u64; 8] = [0, 2, 5, 10, 1, 20, 40, 80];
+
+/// Most runs of the program spent on shortening a failing log.
+const MAX_SHORTENING_RUNS: usize = 3000;
+
+/// A log on which the program and the model differ.
+pub struct Mismatch {
+    pub seed: u64,
+    pub damage: u64,
+    pub log: Vec<u8>,
+    pub expected: Vec<u8>,
+    pub actual: Vec<u8>,
+}
+
+/// What was compared, and the first mismatch.
+pub struct Outcome {
+    pub logs: u64,
+    pub lines: u64,
+    pub mismatch: Option<Mismatch>,
+}
+
+pub fn damage_share(seed: u64) -> u64 {
+    DAMAGE_SHARES[(seed % DAMAGE_SHARES.len() as u64) as usize]
+}
+
+/// Runs the program on the logs of seeds 1 to `seeds`, until one differs.
+pub fn compare(program: &str, seeds: u64, lines: usize) -> io::Result<Outcome> {
+    let mut outcome = Outcome {
+        logs: 0,
+        lines: 0,
+        mismatch: None,
+    };
+    for seed in 1..=seeds {
+        let damage = damage_share(seed);
+        let log = generate::log(seed, lines, damage);
+        let expected = text::run(&log);
+        let actual = run_program(program, &log)?;
+        outcome.logs += 1;
+        outcome.lines += text::lines(&log).count() as u64;
+        if actual != expected {
+            outcome.mismatch = Some(Mismatch {
+                seed,
+                damage,
+                log,
+                expected,
+                actual,
+            });
+            break;
+        }
+    }
+    Ok(outcome)
+}
+
+/// The standard output of the program when fed the log.
+pub fn run_program(program: &str, log: &[u8]) -> io::Result<Vec<u8>> {
+    let mut child = Command::new(program)
+        .stdin(Stdio::piped())
+        .stdout(Stdio::piped())
+        .spawn()?;
+    let mut input = child.stdin.take().expect("standard input is piped");
+    let log = log.to_vec();
+    // A program that stops reading early shows in its output.
+    let writer = thread::spawn(move || drop(input.write_all(&log)));
+    let output = child.wait_with_output()?;
+    writer.join().expect("the writer does not panic");
+    Ok(output.stdout)
+}
+
+/// The number of the first line that differs, from 1.
+pub fn first_difference(expected: &[u8], actual: &[u8]) -> usize {
+    let same = text::lines(expected)
+        .zip(text::lines(actual))
+        .take_while(|(left, right)| left == right);
+    same.count() + 1
+}
+
+/// Line `number` (from 1) as text, or a note that it is missing.
+pub fn line_text(bytes: &[u8], number: usize) -> String {
+    match text::lines(bytes).nth(number - 1) {
+        Some(line) => line.escape_ascii().to_string(),
+        None => "(no line)".to_string(),
+    }
+}
+
+/// The shortest log found on which the program still differs.
+pub fn shorten_for(program: &str, mismatch: &Mismatch) -> Vec<u8> {
+    let mut runs = 0;
+    let first = first_difference(&mismatch.expected, &mismatch.actual);
+    shorten(&mismatch.log, first, |log| {
+        runs += 1;
+        runs <= MAX_SHORTENING_RUNS
+            && run_program(program, log).is_ok_and(|actual| actual != text::run(log))
+    })
+}
+
+/// Drops lines after the first difference, then ever smaller groups of lines,
+/// while the log still fails.
+pub fn shorten(log: &[u8], first: usize, mut fails: impl FnMut(&[u8]) -> bool) -> Vec<u8> {
+    let mut lines: Vec<&[u8]> = log.split_inclusive(|&byte| byte == b'\n').collect();
+    let head: Vec<u8> = lines[..first.min(lines.len())].concat();
+    if fails(&head) {
+        lines.truncate(first);
+    }
+    let mut group = lines.len().div_ceil(2).max(1);
+    loop {
+        let dropped = drop_groups(&mut lines, group, &mut fails);
+        if group == 1 && !dropped {
+            return lines.concat();
+        }
+        group = group.div_ceil(2);
+    }
+}
+
+/// Drops each group of lines that the failure does not need, last group first.
+fn drop_groups(
+    lines: &mut Vec<&[u8]>,
+    group: usize,
+    fails: &mut impl FnMut(&[u8]) -> bool,
+) -> bool {
+    let mut dropped = false;
+    let mut end = lines.len();
+    while end > 0 {
+        let start = end.saturating_sub(group);
+        let rest = [&lines[..start], &lines[end..]].concat();
+        if fails(&rest.concat()) {
+            *lines = rest;
+            dropped = true;
+        }
+        end = start;
+    }
+    dropped
+}
+
+#[cfg(test)]
+mod tests {
+    use super::*;
+
+    #[test]
+    fn the_first_difference_is_found() {
+        assert_eq!(first_difference(b"a\nb\n", b"a\nc\n"), 2);
+        assert_eq!(first_difference(b"a\nb\n", b"a\n"), 2);
+        assert_eq!(first_difference(b"", b"a\n"), 1);
+        assert_eq!(line_text(b"a\n\xFF", 2), "\\xff");
+        assert_eq!(line_text(b"a\n", 2), "(no line)");
+    }
+
+    #[test]
+    fn needed_lines_stay() {
+        let log = generate::log(5, 400, 10);
+        let third = text::lines(&log).nth(120).unwrap().to_vec();
+        let fails = |log: &[u8]| {
+            let wanted = |line: &[u8]| line == third || line == b"ev=stop";
+            text::lines(log).filter(|line| wanted(line)).count() >= 2
+        };
+        let short = shorten(&log, 400, fails);
+        assert_eq!(text::lines(&short).count(), 2);
+    }
+
+    #[test]
+    fn an_empty_log_can_be_shortened() {
+        assert_eq!(shorten(b"", 1, |_| true), b"");
+    }
+}
