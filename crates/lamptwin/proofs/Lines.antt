@@ -1,0 +1,121 @@
+-- Laws of a stream of lines.
+use Prim.Native.Nat.{ℕ, zero, suc, _+_, _-_, _≤_, _<_, min}
+use mathlib.Core.Path.{_≡_, refl, sym, ap, _∙_}
+use mathlib.Core.Bool.{Bool, true, false}
+use mathlib.Core.List.{List, [], _∷_, _++_, append-assoc}
+use mathlib.Core.Logic.{_⊎_, inl, inr, ⊎-elim}
+use native.Mathlib.Numerals.{add-one, unary-clauses}
+use native.Mathlib.Nat.{add-comm, zero-min, min-zero, suc-min-suc}
+use native.Mathlib.Omega.{arith}
+use lib.ListN.{length, take, drop, getD, set, length-drop, length-set, take-append-drop}
+use lib.Seq.{take-add, take-all, take-suc, take-suc-set, drop-set-lt, drop-drop, getD-drop, take-nil}
+use Rattle.bus.specs.Bus.{busOk}
+use Rattle.script.specs.Promises.{after-well}
+use Rattle.script.specs.Lines.{linesOf, endOf, Whole}
+use Rattle.script.specs.Run.{after, afterLine, answers, Runs}
+use Rattle.script.specs.laws.Stream.{truncated-answers}
+use Rattle.script.specs.declared.batch.State.{State}
+use Rattle.script.specs.declared.batch.Ran.{Ran}
+use Rattle.lamptwin.specs.Stream.{Reached, Drains, Kept, Fed}
+use Rattle.lamptwin.specs.declared.stream.Drained.{Drained}
+
+whole-both : (p q : List ℕ) → Whole p → Whole q → Whole (p ++ q)
+whole-both p q a b = record { lines = λ t. rw (append-assoc, a .lines (q ++ t), b .lines t, a .lines q) (sym (append-assoc (linesOf p) (linesOf q) (linesOf t))) }
+
+after-both : (s : State) (ls ms : List (List ℕ)) → after s (ls ++ ms) ≡ after (after s ls) ms
+unfolding after
+after-both s [] ms = refl
+after-both s (l ∷ ls) ms = after-both (afterLine s l) ls ms
+
+pub reached-none : (s : State) (input : List ℕ) → Reached s input 0 s
+unfolding linesOf after
+reached-none s input = record { within = omega arith; whole = record { lines = λ t. refl }; state-is = refl }
+
+pub reached-well : {s : State} {input : List ℕ} {read : ℕ} {state : State} → Reached s input read state → busOk (s .bus) ≡ true → busOk (state .bus) ≡ true
+reached-well {s} a h = rw (a .state-is) (after-well s _ h)
+
+module _ (s : State) (input : List ℕ) (from : ℕ) (state : State) (a : Reached s input from state)
+    (old new part : List ℕ) (r : Ran) (e : part ≡ take (length input - from) (drop from input)) (b : Runs state part old new r) where
+  part-is : part ≡ drop from input
+  part-is = e ∙ take-all (length input - from) (drop from input) (rw length-drop (omega arith))
+
+  upto : take (from + r .read) input ≡ take from input ++ take (r .read) (drop from input)
+  upto = take-add from (r .read) input
+
+  whole-rest : Whole (take (r .read) (drop from input))
+  whole-rest = rw part-is at (b .did .whole)
+
+  state-rest : r .state ≡ after state (linesOf (take (r .read) (drop from input)))
+  state-rest = rw part-is at (b .did .state-is)
+
+  pub reached-more : Reached s input (from + r .read) (r .state)
+  reached-more = record {
+    within = omega (arith, b .did .within, ap length part-is, length-drop from input, a .within);
+    whole = rw upto (whole-both _ _ (a .whole) whole-rest);
+    state-is = rw (upto, a .whole .lines (take (r .read) (drop from input)), after-both, ← a .state-is) state-rest;
+  }
+
+  module _ (z : r .read ≡ 0) where
+    pub reached-same : Reached s input from (r .state)
+    reached-same = let q : from + r .read ≡ from = omega arith in rw q at reached-more
+
+    none-wrote : r .wrote ≡ 0
+    unfolding linesOf answers
+    none-wrote = rw z at (b .did .text .stop)
+
+    pub none-left : 76 ≤ length old → length input ≤ from + endOf (drop from input)
+    none-left h =
+        ⊎-elim (λ (g : length part ≤ r .read + endOf (drop (r .read) part)). omega (arith, rw (z, part-is, length-drop) at g))
+        (λ (g : length old < r .wrote + 76). absurd (omega (arith, none-wrote)))
+        (b .stop)
+
+-- a byte that is moved down
+module _ (old now : List ℕ) (from i : ℕ) (t : take i now ≡ take i (drop from old)) (d : drop i now ≡ drop i old) (l : length now ≡ length old) where
+  moved : getD now (from + i) 0 ≡ getD (drop from old) i 0
+  moved =
+      ap (λ (n : ℕ). getD now n 0) (add-comm from i)
+      ∙ sym (getD-drop i now from 0)
+      ∙ ap (λ (x : List ℕ). getD x from 0) d
+      ∙ getD-drop i old from 0
+      ∙ ap (λ (n : ℕ). getD old n 0) (add-comm i from)
+      ∙ sym (getD-drop from old i 0)
+
+  pub keep-take : from + i < length old → take (i + 1) (set now i (getD now (from + i) 0)) ≡ take (i + 1) (drop from old)
+  keep-take h =
+      let g : i < length (drop from old) = rw length-drop (omega arith) in
+      rw (add-one, take-suc-set now i (getD now (from + i) 0) (omega arith), take-suc (drop from old) i 0 g, t, moved)
+
+  pub keep-drop : (v : ℕ) → drop (i + 1) (set now i v) ≡ drop (i + 1) old
+  keep-drop v = drop-set-lt (i + 1) now i v (omega arith) ∙ sym (drop-drop 1 i now) ∙ ap (drop 1) d ∙ drop-drop 1 i old
+
+pub kept : (old new : List ℕ) (from end n i : ℕ) → n ≡ min 81 (end - from) → i ≤ n → n ≤ i → take i new ≡ take i (drop from old) → Kept old from end new i
+kept old new from end n i h a b t = record { count = omega arith; text = t }
+
+take-min : (n m : ℕ) (l : List ℕ) → take (min n m) l ≡ take n (take m l)
+take-min zero m l = rw zero-min
+take-min (suc n) zero l = rw min-zero
+take-min (suc n) (suc m) [] = take-nil (min (suc n) (suc m))
+take-min (suc n) (suc m) (x ∷ l) = rw suc-min-suc (ap (λ (t : List ℕ). x ∷ t) (take-min n m l))
+
+drop-take : (a n : ℕ) (l : List ℕ) → drop a (take n l) ≡ take (n - a) (drop a l)
+drop-take zero n l = simp unary-clauses
+drop-take (suc a) zero l = let z : 0 - suc a ≡ 0 = omega arith in rw z
+drop-take (suc a) (suc n) [] = sym (take-nil (suc n - suc a))
+drop-take (suc a) (suc n) (x ∷ l) = simp unary-clauses (drop-take a n l)
+
+fed-same : (s : State) (old new : List ℕ) (end : ℕ) (d : Drained) (r : ℕ) → end ≤ length old → Drains s (take end old) d → Kept old (d .read) end new r
+    → d .is_open ≡ true → (t : List ℕ) → after (d .state) (linesOf (take r new ++ t)) ≡ after s (linesOf (take end old ++ t))
+fed-same s old new end d r h a k o t =
+    let w = take end old in
+    let p = drop (d .read) w in
+    let kept-is : take r new ≡ take 81 p =
+    k .text ∙ ap (λ (n : ℕ). take n (drop (d .read) old)) (k .count) ∙ take-min 81 (end - d .read) (drop (d .read) old) ∙ ap (take 81) (sym (drop-take (d .read) end old)) in
+    let n : length p ≤ endOf p = rw length-drop (omega (arith, a .stop o)) in
+    let q : w ++ t ≡ take (d .read) w ++ (p ++ t) = ap (λ (x : List ℕ). x ++ t) (sym (take-append-drop (d .read) w)) ∙ append-assoc (take (d .read) w) p t in
+    rw (kept-is, q, a .reached .whole .lines (p ++ t), after-both, ← a .reached .state-is) (truncated-answers (d .state) p t n .1)
+
+pub fed : (s : State) (old new part : List ℕ) (end : ℕ) (d : Drained) (r : ℕ) → busOk (s .bus) ≡ true → end ≤ length old → part ≡ take (end - 0) old → Drains s part d → Kept old (d .read) end new r
+    → Fed s (take end old) new (record { state = d .state; have = r; is_open = d .is_open })
+fed s old new part end d r w h e a k =
+    let z : end - 0 ≡ end = omega arith in
+    record { well = reached-well (a .reached) w; few = omega (arith, k .count); same = fed-same s old new end d r h (rw (e, z) at a) k }

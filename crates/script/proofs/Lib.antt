@@ -1,0 +1,3 @@
+pub mod Scanning
+pub mod Buffer
+pub mod Running

@@ -1,0 +1,9 @@
+pub mod Text
+pub mod EventLine
+pub mod Cursor
+pub mod Parse
+pub mod AnswerLine
+pub mod Lines
+pub mod Run
+pub mod Promises
+pub mod laws

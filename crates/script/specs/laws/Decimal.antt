@@ -1,0 +1,187 @@
+-- A number that is written is read back, and what is read as a number is one that is written.
+use Prim.Native.Nat.{ℕ, zero, suc, _+_, _*_, _-_, _/_, _%_, _^_, _≤_, _<_}
+use mathlib.Core.Path.{_≡_, refl, sym, ap, _∙_}
+use mathlib.Core.Bool.{Bool, true, false, cond}
+use mathlib.Core.List.{List, [], _∷_, _++_, append-assoc}
+use mathlib.Core.Logic.{_⊎_, inl, inr, ⊎-elim}
+use native.Mathlib.Nat.{pow-suc}
+use native.Mathlib.Omega.{arith}
+use borrow.Author.Tests.{lt-ltb, le-ltb, le-leb, lt-leb, ne-eqb, ltb-true, ltb-false, leb-true, eqb-false}
+use lib.ListN.{length, length-append}
+use lib.Dec.{ltb, leb, eqb}
+use Rattle.script.specs.Text.{spelled, decimal}
+use Rattle.script.specs.EventLine.{Short}
+use Rattle.script.specs.Cursor.{Rest, rest, mismatch, isDigit, takesDigit, digitsOf, firstOf}
+
+-- a test, with what it says
+pub data Tested (b : Bool) : Type 0 where
+  holds : b ≡ true → Tested b
+  fails : b ≡ false → Tested b
+
+pub tested : (b : Bool) → Tested b
+tested true = holds refl
+tested false = fails refl
+
+pub lt-or-ge : (a b : ℕ) → (a < b) ⊎ (b ≤ a)
+lt-or-ge a b = elim (tested (ltb a b)) [ holds e ↦ inl (ltb-true a b e) | fails e ↦ inr (ltb-false a b e) ]
+
+pub spelled-one : (k n : ℕ) → n < 10 → spelled (suc k) n ≡ (48 + n) ∷ []
+unfolding spelled
+spelled-one k n h = rw (lt-ltb n 10 h)
+
+pub spelled-more : (k n : ℕ) → 10 ≤ n → spelled (suc k) n ≡ spelled k (n / 10) ++ ((48 + n % 10) ∷ [])
+unfolding spelled
+spelled-more k n h = rw (le-ltb n 10 h)
+
+-- places that are not needed change nothing
+spelled-same : (k n : ℕ) → n < 10 ^ suc k → spelled (suc k) n ≡ spelled (suc (suc k)) n
+spelled-same zero n h = let g : n < 10 = omega arith in rw (spelled-one 0 n g, spelled-one 1 n g)
+spelled-same (suc k) n h =
+    ⊎-elim (λ (g : n < 10). rw (spelled-one (suc k) n g, spelled-one (suc (suc k)) n g))
+    (λ (g : 10 ≤ n). rw (spelled-more (suc k) n g, spelled-more (suc (suc k)) n g, spelled-same k (n / 10) (omega (arith, rw pow-suc at h))))
+    (lt-or-ge n 10)
+
+spelled-length : (k n : ℕ) → length (spelled k n) ≤ k
+unfolding spelled
+spelled-length zero n = omega arith
+spelled-length (suc k) n = ⊎-elim (λ (g : n < 10). rw (spelled-one k n g) (omega arith)) (λ (g : 10 ≤ n). rw (spelled-more k n g, length-append) (omega (arith, spelled-length k (n / 10)))) (lt-or-ge n 10)
+
+pub decimal-length : (n : ℕ) → length (decimal n) ≤ 20
+decimal-length n = spelled-length 20 n
+
+pub short : (n : ℕ) → Short n → length (decimal n) ≤ 15
+short n h =
+    let e : spelled 15 n ≡ spelled 20 n =
+    spelled-same 14 n (omega arith) ∙ spelled-same 15 n (omega arith) ∙ spelled-same 16 n (omega arith) ∙ spelled-same 17 n (omega arith) ∙ spelled-same 18 n (omega arith) in
+    rw (← e) (spelled-length 15 n)
+
+-- a digit that goes on a number
+pub grow : (n d : ℕ) → 0 < n → n < 100000000000000 → 48 ≤ d → d < 58 → decimal (n * 10 + (d - 48)) ≡ decimal n ++ (d ∷ [])
+grow n d p h k g =
+    let q : (n * 10 + (d - 48)) / 10 ≡ n = omega arith in
+    let r : 48 + (n * 10 + (d - 48)) % 10 ≡ d = omega arith in
+    spelled-more 19 (n * 10 + (d - 48)) (omega arith) ∙ rw (q, r, spelled-same 18 n (omega arith))
+
+pub decimal-one : (d : ℕ) → 48 ≤ d → d < 58 → decimal (d - 48) ≡ d ∷ []
+decimal-one d h g = let r : 48 + (d - 48) ≡ d = omega arith in spelled-one 19 (d - 48) (omega arith) ∙ rw r
+
+both : (p q : Bool) → cond p q false ≡ true → (p ≡ true) × (q ≡ true)
+both true q e = (refl, e)
+both false q e = absurd (let z : _≡_ {A = ℕ} 0 1 = cc in omega arith)
+
+pub digit-true : (d : ℕ) → isDigit d ≡ true → (48 ≤ d) × (d < 58)
+digit-true d e =
+    let h = both (leb 48 d) (ltb d 58) e in
+    (leb-true _ _ (h .0), ltb-true _ _ (h .1))
+
+other : (p q : Bool) → cond p false q ≡ true → (p ≡ false) × (q ≡ true)
+other true q e = absurd (let z : _≡_ {A = ℕ} 0 1 = cc in omega arith)
+other false q e = (refl, e)
+
+pub takes-digit-true : (n d : ℕ) → takesDigit n d ≡ true → (0 < n) × (n < 100000000000000) × (48 ≤ d) × (d < 58)
+takes-digit-true n d e =
+    let o = other (eqb n 0) _ e in
+    let h = both (ltb n 100000000000000) (isDigit d) (o .1) in
+    let k = digit-true d (h .1) in
+    let z = eqb-false n 0 (o .0) in
+    (positive n z, ltb-true _ _ (h .0), k .0, k .1)
+  where
+    positive : (m : ℕ) → (m ≡ 0 → ⊥) → 0 < m
+    positive zero w = absurd (w refl)
+    positive (suc m) w = omega arith
+
+-- what is read as a number, from l on with a and b: the number m, and r is rest
+pub record Read (l : List ℕ) (a b : ℕ) (r : List ℕ) (x y m : ℕ) : Type 0 where
+  pub line : l ≡ decimal m ++ r
+  pub short : Short m
+  pub first : a ≡ x
+  pub second : b ≡ y
+
+here : (l : List ℕ) (n a b : ℕ) {r : List ℕ} {x y m : ℕ} → Short n → rest l a b n ≡ rest r x y m → Read (decimal n ++ l) a b r x y m
+here l n a b {r} {x} {y} {m} s e =
+    let q : n ≡ m = cc in
+    let u : l ≡ r = cc in
+    record { line = rw (q, u); short = rw (← q) s; first = cc; second = cc }
+
+further : (l : List ℕ) (n d a b : ℕ) {r : List ℕ} {x y m : ℕ} → takesDigit n d ≡ true → Read (decimal (n * 10 + (d - 48)) ++ l) a b r x y m → Read (decimal n ++ (d ∷ l)) a b r x y m
+further l n d a b t i =
+    let k = takes-digit-true n d t in
+    record {
+      line = sym (append-assoc (decimal n) (d ∷ []) l) ∙ rw (grow n d (k .0) (k .1) (k .2) (k .3)) at (i .line);
+      short = i .short;
+      first = i .first;
+      second = i .second;
+    }
+
+still-short : (n d : ℕ) → takesDigit n d ≡ true → Short (n * 10 + (d - 48))
+still-short n d t = let k = takes-digit-true n d t in omega arith
+
+digits-sound : (l : List ℕ) (n a b : ℕ) {r : List ℕ} {x y m : ℕ} → Short n → digitsOf n l a b ≡ rest r x y m → Read (decimal n ++ l) a b r x y m
+unfolding digitsOf
+digits-sound [] n a b s e = here [] n a b s e
+digits-sound (d ∷ l) n a b s e =
+    elim (tested (takesDigit n d)) [
+      | holds t ↦ further l n d a b t (digits-sound l (n * 10 + (d - 48)) a b (still-short n d t) (rw t at e))
+      | fails t ↦ here (d ∷ l) n a b s (rw t at e)
+    ]
+
+pub never : {r : List ℕ} {x y m : ℕ} {A : Type 0} → mismatch ≡ rest r x y m → A
+never e = absurd (let z : _≡_ {A = ℕ} 0 1 = cc in omega arith)
+
+pub number-sound : (l : List ℕ) (a b : ℕ) {r : List ℕ} {x y m : ℕ} → firstOf l a b ≡ rest r x y m → Read l a b r x y m
+unfolding firstOf
+number-sound [] a b e = never e
+number-sound (d ∷ l) a b e =
+    elim (tested (isDigit d)) [
+      | holds t ↦
+          let k = digit-true d t in
+          rw (decimal-one d (k .0) (k .1)) at (digits-sound l (d - 48) a b (omega arith) (rw t at e))
+      | fails t ↦ never (rw t at e)
+    ]
+
+-- what follows a number is no digit
+abbrev pub Stops : List ℕ → Type 0
+Stops [] = Unit {0}
+Stops (d ∷ l) = isDigit d ≡ false
+
+no-more : (n d : ℕ) → isDigit d ≡ false → takesDigit n d ≡ false
+no-more n d e = rw e (go (eqb n 0) (ltb n 100000000000000))
+  where
+    go : (p q : Bool) → cond p false (cond q false false) ≡ false
+    go true true = refl
+    go true false = refl
+    go false true = refl
+    go false false = refl
+
+digits-stop : (r : List ℕ) (n a b : ℕ) → Stops r → digitsOf n r a b ≡ rest r a b n
+unfolding digitsOf
+digits-stop [] n a b h = refl
+digits-stop (d ∷ l) n a b h = rw (no-more n d h)
+
+is-digit : (e : ℕ) → e < 10 → isDigit (48 + e) ≡ true
+is-digit e h = let g : 48 + e < 58 = omega arith in let k : 48 ≤ 48 + e = omega arith in rw (le-leb 48 (48 + e) k, lt-ltb (48 + e) 58 g)
+
+one-read : (n : ℕ) (r : List ℕ) (a b : ℕ) → n < 10 → firstOf ((48 + n) ∷ r) a b ≡ digitsOf n r a b
+unfolding firstOf
+one-read n r a b h = let q : 48 + n - 48 ≡ n = omega arith in rw (is-digit n h, q)
+
+more-read : (n : ℕ) (r : List ℕ) (a b : ℕ) → 10 ≤ n → Short n → digitsOf (n / 10) ((48 + n % 10) ∷ r) a b ≡ digitsOf n r a b
+unfolding digitsOf
+more-read n r a b h s =
+    let q : n / 10 * 10 + (48 + n % 10 - 48) ≡ n = omega arith in
+    let u : n / 10 ≡ 0 → ⊥ = λ z. omega arith in
+    let v : n / 10 < 100000000000000 = omega arith in
+    let w : n % 10 < 10 = omega arith in
+    rw (ne-eqb (n / 10) 0 u, lt-ltb (n / 10) 100000000000000 v, is-digit (n % 10) w, q)
+
+spelled-read : (k n : ℕ) (r : List ℕ) (a b : ℕ) → n < 10 ^ suc k → Short n → firstOf (spelled (suc k) n ++ r) a b ≡ digitsOf n r a b
+spelled-read zero n r a b h s = let g : n < 10 = omega arith in rw (spelled-one 0 n g) (one-read n r a b g)
+spelled-read (suc k) n r a b h s =
+    ⊎-elim (λ (g : n < 10). rw (spelled-one (suc k) n g) (one-read n r a b g))
+    (λ (g : 10 ≤ n).
+    rw (spelled-more (suc k) n g, append-assoc)
+    (spelled-read k (n / 10) ((48 + n % 10) ∷ r) a b (omega (arith, rw pow-suc at h)) (omega arith) ∙ more-read n r a b g s))
+    (lt-or-ge n 10)
+
+pub number-read : (n : ℕ) (r : List ℕ) (a b : ℕ) → Short n → Stops r → firstOf (decimal n ++ r) a b ≡ rest r a b n
+number-read n r a b s h = spelled-read 19 n r a b (omega arith) s ∙ digits-stop r n a b h

@@ -1,0 +1,88 @@
+// From the bytes of some lines to the bytes of their answers.
+ghost use mathlib.Core.Path.{_≡_};
+ghost use mathlib.Core.Bool.{true};
+ghost use Rattle.bus.specs.Bus.{busOk};
+ghost use Rattle.script.specs.Run.{freshState, nextNumber, replyTo, ranTo, Runs};
+use crate::answer::write_answer;
+use crate::lines::line_end;
+use crate::parser::Parsed;
+use crate::parser::parse;
+use bus::Bus;
+use bus::Reply;
+
+// What is kept from line to line: how many lines are answered, and the bus after them.
+pub struct State {
+    pub lines: u64,
+    pub bus: Bus,
+}
+
+// How far a run got: bytes read, bytes written, and the state after the lines answered.
+pub struct Ran {
+    pub read: usize,
+    pub wrote: usize,
+    pub state: State,
+}
+
+pub fn fresh() -> State
+    ensures { λ r. ⌜ r ≡ freshState ⌝ }
+{
+    let none = bus::empty();
+    State {
+        lines: 0,
+        bus: none,
+    }
+}
+
+// A line's number is one more than that of the line before; no run gets to the largest u64, where it stays.
+fn next_number(n: u64) -> u64
+    ensures { λ r. ⌜ r ≡ nextNumber n ⌝ }
+{
+    if n < u64::MAX { n + 1 } else { n }
+}
+
+// What a line is answered with.
+fn reply_to(bus: Bus, line: &[u8]) -> Reply
+    requires { ⌜ busOk bus ≡ true ⌝ }
+    ensures { λ r. ⌜ r ≡ replyTo bus (now (line .entry)) ⌝ }
+{
+    let parsed = parse(line);
+    match parsed {
+        Parsed::Event(event) => bus::calls::step_well_formed(bus, event),
+        Parsed::Bad => bus::refused(bus, 4),
+    }
+}
+
+fn ran_to(read: usize, wrote: usize, lines: u64, bus: Bus) -> Ran
+    ensures { λ r. ⌜ r ≡ ranTo read wrote lines bus ⌝ }
+{
+    let state = State { lines, bus };
+    Ran { read, wrote, state }
+}
+
+// Answers the complete lines of input, one after the other, while out has room for an answer.
+pub fn run(first: State, input: &[u8], out: &mut [u8]) -> Ran
+    requires { ⌜ busOk (first .bus) ≡ true ⌝ }
+    ensures { λ r. ⌜ Runs first (now (input .entry)) (now (out .entry)) (now (out .exit)) r ⌝ }
+{
+    let mut lines = first.lines;
+    let mut bus = first.bus;
+    let mut from: usize = 0;
+    let mut at: usize = 0;
+    if out.len() < 76 {
+        return ran_to(from, at, lines, bus);
+    }
+    let most = out.len() - 76;
+    while at <= most {
+        let end = line_end(input, from);
+        if input.len() <= end {
+            return ran_to(from, at, lines, bus);
+        }
+        let r = reply_to(bus, &input[from..end]);
+        let n = next_number(lines);
+        at = write_answer(n, r.code, r.value, out, at);
+        lines = n;
+        bus = r.bus;
+        from = end + 1;
+    }
+    ran_to(from, at, lines, bus)
+}
