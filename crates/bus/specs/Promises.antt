@@ -41,7 +41,7 @@ use Rattle.bus.specs.declared.Reply.{Reply}
 -- ---- an answer
 
 -- what holds of the bus as it was, and of the bus where no refusal holds, holds of the bus afterwards
-answer-bus : (P : Bus → Type 0) (l : List Refusal) (b : Bus) (d : Reply) → risesFrom 0 l ≡ true → P b → (NoneHolds l → P (d .bus)) → P (answer l b d .bus)
+pub answer-bus : (P : Bus → Type 0) (l : List Refusal) (b : Bus) (d : Reply) → risesFrom 0 l ≡ true → P b → (NoneHolds l → P (d .bus)) → P (answer l b d .bus)
 unfolding answer
 answer-bus P l b d h p q = go (eqb (codeOf l) 0) refl
   where
@@ -49,7 +49,7 @@ answer-bus P l b d h p q = go (eqb (codeOf l) 0) refl
     go true e = q (accepted 0 l h (eqb-true (codeOf l) 0 e))
     go false e = p
 
-answer-code : (l : List Refusal) (b : Bus) (d : Reply) → d .code ≡ 0 → answer l b d .code ≡ codeOf l
+pub answer-code : (l : List Refusal) (b : Bus) (d : Reply) → d .code ≡ 0 → answer l b d .code ≡ codeOf l
 unfolding answer
 answer-code l b d z = go (eqb (codeOf l) 0) refl
   where
@@ -57,7 +57,7 @@ answer-code l b d z = go (eqb (codeOf l) 0) refl
     go true e = z ∙ sym (eqb-true (codeOf l) 0 e)
     go false e = refl
 
-answer-refused : (l : List Refusal) (b : Bus) (d : Reply) → d .code ≡ 0 → (answer l b d .code ≡ 0 → ⊥) → answer l b d ≡ refusedWith b (answer l b d .code)
+pub answer-refused : (l : List Refusal) (b : Bus) (d : Reply) → d .code ≡ 0 → (answer l b d .code ≡ 0 → ⊥) → answer l b d ≡ refusedWith b (answer l b d .code)
 unfolding answer
 answer-refused l b d z n = go (eqb (codeOf l) 0) n
   where

@@ -8,9 +8,11 @@ ghost use Rattle.bus.specs.Replies.{refusedWith, doneWith};
 
 mod add;
 pub mod calls;
-pub mod devices;
+mod devices;
 mod place;
 mod signals;
+
+pub use devices::is_ok;
 
 pub struct Bus {
     pub phase: Phase,

@@ -1,0 +1,4 @@
+pub mod Message
+pub mod Sent
+pub mod laws
+pub mod Promises

@@ -1,0 +1,4 @@
+pub mod Runs
+pub mod Sent
+pub mod Gets
+pub mod Buffer

@@ -1,0 +1,55 @@
+// A message under way: the bus, and how many puts were acknowledged. It goes on after a missing acknowledge.
+use bus::Bus;
+use bus::Reply;
+ghost use mathlib.Core.Path.{_≡_};
+ghost use Prim.Native.Nat.{_+_, _≤_, _<_};
+ghost use Rattle.bus.specs.declared.Event.the-variants.{Start, Stop, Put};
+ghost use Rattle.bus.specs.Events.{stepReply};
+ghost use Rattle.bus.specs.Replies.{doneWith};
+ghost use Rattle.message.specs.Sent.{sentNext};
+
+pub struct Sent {
+    pub acks: u64,
+    pub bus: Bus,
+}
+
+pub fn start(sent: Sent) -> Sent
+    ensures { λ r. ⌜ r ≡ sentNext sent Start ⌝ }
+    ensures { λ r. ⌜ r .acks ≡ sent .acks ⌝ }
+{
+    let reply = bus::calls::start(sent.bus);
+    let bus = reply.bus;
+    Sent {
+        acks: sent.acks,
+        bus: bus,
+    }
+}
+
+// A slice has fewer than 2^63 bytes, so the count of a message's puts fits.
+pub fn put(sent: Sent, byte: u64) -> Sent
+    requires { ⌜ sent .acks < 18446744073709551615 ⌝ }
+    ensures { λ r. ⌜ r ≡ sentNext sent (Put byte) ⌝ }
+    ensures { λ r. ⌜ r .acks ≤ sent .acks + 1 ⌝ }
+{
+    let reply = bus::calls::put(sent.bus, byte);
+    let bus = reply.bus;
+    if reply.value == 0 {
+        Sent {
+            acks: sent.acks,
+            bus: bus,
+        }
+    } else {
+        Sent {
+            acks: sent.acks + 1,
+            bus: bus,
+        }
+    }
+}
+
+// The STOP that ends a message.
+pub fn stop(acks: u64, bus: Bus) -> Reply
+    ensures { λ r. ⌜ r ≡ doneWith acks (stepReply bus Stop .bus) ⌝ }
+{
+    let reply = bus::calls::stop(bus);
+    bus::done(acks, reply.bus)
+}
