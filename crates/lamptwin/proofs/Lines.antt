@@ -1,22 +1,24 @@
 -- Laws of a stream of lines.
 use Prim.Native.Nat.{ℕ, zero, suc, _+_, _-_, _≤_, _<_, min}
 use mathlib.Core.Path.{_≡_, refl, sym, ap, _∙_}
-use mathlib.Core.Bool.{Bool, true, false}
+use mathlib.Core.Bool.{true}
 use mathlib.Core.List.{List, [], _∷_, _++_, append-assoc}
-use mathlib.Core.Logic.{_⊎_, inl, inr, ⊎-elim}
+use mathlib.Core.Logic.{_⊎_, ⊎-elim}
 use native.Mathlib.Numerals.{add-one, unary-clauses}
-use native.Mathlib.Nat.{add-comm, zero-min, min-zero, suc-min-suc}
+use native.Mathlib.Nat.{le-of-suc-le-suc, add-comm, zero-min, min-zero, suc-min-suc}
 use native.Mathlib.Omega.{arith}
-use lib.ListN.{length, take, drop, getD, set, length-drop, length-set, take-append-drop}
-use lib.Seq.{take-add, take-all, take-suc, take-suc-set, drop-set-lt, drop-drop, getD-drop, take-nil}
+use lib.ListN.{length, take, drop, getD, set, length-append, length-drop, take-append-drop}
+use lib.Seq.{take-add, take-all, length-take-le, take-suc, take-suc-set, drop-set-lt, drop-drop, getD-drop, take-nil}
+use lib.Dec.{eqb}
 use Rattle.bus.specs.Bus.{busOk}
+use Rattle.script.specs.laws.Decimal.{holds, fails, tested, lt-or-ge}
 use Rattle.script.specs.Promises.{after-well}
 use Rattle.script.specs.Lines.{linesOf, endOf, Whole}
 use Rattle.script.specs.Run.{after, afterLine, answers, Runs}
 use Rattle.script.specs.laws.Stream.{truncated-answers}
 use Rattle.script.specs.declared.batch.State.{State}
 use Rattle.script.specs.declared.batch.Ran.{Ran}
-use Rattle.lamptwin.specs.Stream.{Reached, Drains, Kept, Fed}
+use Rattle.lamptwin.specs.Stream.{Reached, Drains, Kept, Fed, closed, Finishes}
 use Rattle.lamptwin.specs.declared.stream.Drained.{Drained}
 
 whole-both : (p q : List ℕ) → Whole p → Whole q → Whole (p ++ q)
@@ -119,3 +121,43 @@ pub fed : (s : State) (old new part : List ℕ) (end : ℕ) (d : Drained) (r : �
 fed s old new part end d r w h e a k =
     let z : end - 0 ≡ end = omega arith in
     record { well = reached-well (a .reached) w; few = omega (arith, k .count); same = fed-same s old new end d r h (rw (e, z) at a) k }
+
+-- at the end of the input
+end-fed : (q : List ℕ) → endOf (q ++ (10 ∷ [])) ≤ length q
+unfolding endOf
+end-fed [] = omega arith
+end-fed (b ∷ q) =
+    elim (tested (eqb b 10)) [
+      | holds e ↦ rw e (omega arith)
+      | fails e ↦ rw e (omega (arith, end-fed q))
+    ]
+
+drop-fed : (n : ℕ) (p : List ℕ) → n ≤ length p → drop n (p ++ (10 ∷ [])) ≡ drop n p ++ (10 ∷ [])
+drop-fed zero p h = refl
+drop-fed (suc n) [] h = absurd (omega arith)
+drop-fed (suc n) (b ∷ p) h = drop-fed n p (le-of-suc-le-suc h)
+
+-- an input that ends with a line feed is read whole
+read-whole : (s : State) (p : List ℕ) (d : Drained) → Drains s (p ++ (10 ∷ [])) d → d .is_open ≡ true → d .state ≡ after s (linesOf (p ++ (10 ∷ [])))
+read-whole s p d a o =
+    ⊎-elim
+    (λ (h : d .read < length p + 1).
+    let e = rw (drop-fed (d .read) p (omega arith), length-append) at (a .stop o) in
+    absurd (omega (arith, e, end-fed (drop (d .read) p), length-drop (d .read) p)))
+    (λ (h : length p + 1 ≤ d .read). a .reached .state-is ∙ rw (take-all (d .read) (p ++ (10 ∷ [])) (rw length-append (omega arith))))
+    (lt-or-ge (d .read) (length p + 1))
+
+closed-some : (p : List ℕ) → (length p ≡ 0 → ⊥) → closed p ≡ p ++ (10 ∷ [])
+closed-some [] h = absurd (h refl)
+closed-some (b ∷ p) h = refl
+
+pub finished-none : (s : State) (buf : List ℕ) (have : ℕ) → have ≡ 0 → Finishes s (take have buf) (record { state = s; read = 0; is_open = true })
+unfolding linesOf after
+finished-none s buf have e = record { state-is = λ o. rw e }
+
+pub finished : (s : State) (buf part : List ℕ) (have : ℕ) (d : Drained) → (have ≡ 0 → ⊥) → have < length buf → part ≡ take (have + 1 - 0) (set buf have 10) → Drains s part d → Finishes s (take have buf) d
+finished s buf part have d n h e a =
+    let z : have + 1 - 0 ≡ suc have = omega arith in
+    let q : part ≡ take have buf ++ (10 ∷ []) = e ∙ rw z (take-suc-set buf have 10 h) in
+    let c = closed-some (take have buf) (λ l. n (sym (length-take-le have buf (omega arith)) ∙ l)) in
+    record { state-is = λ o. rw c (read-whole s (take have buf) d (rw q at a) o) }

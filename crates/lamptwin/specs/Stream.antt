@@ -2,7 +2,7 @@
 use Prim.Native.Nat.{ℕ, _+_, _-_, _≤_, min}
 use mathlib.Core.Path.{_≡_}
 use mathlib.Core.Bool.{true}
-use mathlib.Core.List.{List, _++_}
+use mathlib.Core.List.{List, [], _∷_, _++_}
 use lib.ListN.{length, take, drop}
 use Rattle.bus.specs.Bus.{busOk}
 use Rattle.script.specs.Lines.{linesOf, endOf, Whole}
@@ -32,3 +32,12 @@ pub record Fed (s : State) (input new : List ℕ) (r : Turn) : Type 0 where
   pub well : busOk (r .state .bus) ≡ true
   pub few : r .have ≤ 81
   pub same : r .is_open ≡ true → (t : List ℕ) → after (r .state) (linesOf (take (r .have) new ++ t)) ≡ after s (linesOf (input ++ t))
+
+-- what is left of the input at its end, with the line feed that it lacks
+abbrev pub closed : List ℕ → List ℕ
+closed [] = []
+closed (b ∷ p) = (b ∷ p) ++ (10 ∷ [])
+
+-- its line is answered, if the output stays open
+pub record Finishes (s : State) (left : List ℕ) (r : Drained) : Type 0 where
+  pub state-is : r .is_open ≡ true → r .state ≡ after s (linesOf (closed left))

@@ -4,18 +4,19 @@ ghost use mathlib.Core.Bool.{true};
 ghost use Prim.Native.Nat.{_<_, _≤_, min};
 ghost use lib.ListN.{length, take};
 ghost use Rattle.bus.specs.Bus.{busOk};
-ghost use Rattle.lamptwin.specs.Stream.{Drains, Kept, Fed};
+ghost use Rattle.lamptwin.specs.Stream.{Drains, Kept, Fed, Finishes};
 use libc::STDIN_FILENO;
 use libc::STDOUT_FILENO;
 use script::State;
 
-// What is left to do: the bytes that wait at the start of the buffer for the rest of their line.
+// After one read: how many bytes wait at the start of the buffer for the rest of their line, and whether to go on.
 pub struct Turn {
     pub state: State,
     pub have: usize,
     pub is_open: bool,
 }
 
+// How far the lines are answered, and whether the output took the answers.
 pub struct Drained {
     pub state: State,
     pub read: usize,
@@ -76,14 +77,20 @@ fn keep(buf: &mut [u8], from: usize, end: usize) -> usize
     i
 }
 
-// The last line, which lacks its line feed.
-fn finish(state: State, have: usize, buf: &mut [u8], out: &mut [u8])
+// The end of the input: a last line that lacks its line feed is answered as if it had one.
+fn finish(state: State, have: usize, buf: &mut [u8], out: &mut [u8]) -> Drained
     requires { ⌜ (busOk (state .bus) ≡ true) × (have < length (now buf)) × (76 ≤ length (now out)) ⌝ }
+    ensures { λ r. ⌜ Finishes state (take have (now (buf .entry))) r ⌝ }
 {
-    if 0 < have {
-        buf[have] = 10;
-        drain(state, &buf[0..have + 1], out);
+    if have == 0 {
+        return Drained {
+            state,
+            read: 0,
+            is_open: true,
+        };
     }
+    buf[have] = 10;
+    drain(state, &buf[0..have + 1], out)
 }
 
 // Answers each line that is complete in the first `end` bytes. What is kept, with what is to come, stands for all of them.

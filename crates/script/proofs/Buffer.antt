@@ -1,15 +1,14 @@
 -- Laws of writing into a buffer.
-use Prim.Native.Nat.{ℕ, zero, suc, _+_, _*_, _-_, _/_, _%_, _^_, _≤_, _<_}
-use mathlib.Core.Path.{_≡_, refl, sym, ap, _∙_}
-use mathlib.Core.Bool.{Bool, true, false, cond}
-use mathlib.Core.List.{List, [], _∷_, _++_, append-assoc, append-nil}
+use Prim.Native.Nat.{ℕ, zero, suc, _+_, _-_, _/_, _%_, _^_, _≤_, _<_}
+use mathlib.Core.Path.{_≡_, sym, ap, _∙_}
+use mathlib.Core.List.{List, _++_, append-assoc}
 use mathlib.Core.Logic.{⊎-elim}
 use native.Mathlib.Numerals.{add-one, unary-clauses}
 use native.Mathlib.Nat.{pow-suc, add-suc}
 use native.Mathlib.Omega.{arith}
 use borrow.Author.Tests.{lt-ltb}
 use lib.ListN.{length, take, drop, getD, set, length-append, length-take, length-drop}
-use lib.Seq.{paste, paste-zero, paste-suc, length-paste, take-all, take-at, drop-at, drop-drop, length-take-le}
+use lib.Seq.{paste, paste-suc, take-all, take-at, drop-at, drop-drop, length-take-le}
 use Rattle.io.specs.Digits.{digits, Fewest}
 use Rattle.script.specs.Text.{spelled, decimal}
 use Rattle.script.specs.laws.Decimal.{spelled-one, spelled-more, lt-or-ge, decimal-length}

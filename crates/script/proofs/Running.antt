@@ -1,17 +1,16 @@
 -- Laws of a run over lines.
-use Prim.Native.Nat.{ℕ, zero, suc, _+_, _-_, _≤_, _<_}
+use Prim.Native.Nat.{ℕ, suc, _+_, _-_, _≤_, _<_}
 use mathlib.Core.Path.{_≡_, refl, sym, ap, _∙_}
-use mathlib.Core.Bool.{Bool, true, false, cond}
 use mathlib.Core.List.{List, [], _∷_, _++_, append-assoc, append-nil}
 use mathlib.Core.Logic.{_⊎_}
 use native.Mathlib.Numerals.{add-one}
 use native.Mathlib.Nat.{le-of-suc-le-suc, add-suc}
 use native.Mathlib.Omega.{arith}
-use borrow.Author.Tests.{eq-eqb, ne-eqb, lt-ltb, le-ltb}
+use borrow.Author.Tests.{eq-eqb, ne-eqb}
 use lib.ListN.{length, take, drop, getD, drop-of-length-le, length-drop}
 use lib.Seq.{drop-cons, take-add}
 use lib.Dec.{eqb}
-use Rattle.script.specs.laws.Decimal.{Tested, holds, fails, tested}
+use Rattle.script.specs.laws.Decimal.{holds, fails, tested}
 use Rattle.script.specs.Lines.{linesOf, endOf, onto, Whole}
 use Rattle.script.specs.AnswerLine.{answerLine, placed, Written}
 use Rattle.script.specs.Run.{replyTo, nextNumber, afterLine, answerTo, answers, after, Did, ranTo, Runs}

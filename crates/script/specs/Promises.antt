@@ -2,12 +2,14 @@
 use Prim.Native.Nat.{ℕ, _+_, _^_, _<_, _≤_}
 use mathlib.Core.Path.{_≡_, refl, sym, ap, _∙_}
 use mathlib.Core.Bool.{true}
-use mathlib.Core.List.{List, [], _∷_}
+use mathlib.Core.List.{List, [], _∷_, _++_, append-nil}
 use native.Mathlib.Omega.{arith}
 use borrow.Author.Tests.{lt-ltb}
 use lib.ListN.{length, length-append}
 use Rattle.script.specs.Text.{text}
 use Rattle.script.specs.laws.Decimal.{short}
+use Rattle.script.specs.laws.Lines.{free, lines-glue, glue-some, glue-none}
+use Rattle.script.specs.Lines.{linesOf, endOf}
 use Rattle.script.specs.EventLine.{lineOf, InRange}
 use Rattle.script.specs.Cursor.{Rest, rest, mismatch}
 use Rattle.script.specs.Parse.{shapeOf, scanned, eventOf, finish, parsed}
@@ -93,6 +95,17 @@ line-length (E.Pin dev out) h = simp length-append (omega (arith, short dev (h .
 -- a line of more than 80 bytes is Bad, whatever it holds
 pub long-bad : (l : List ℕ) → 80 < length l → parsed l ≡ P.Bad
 long-bad l h = line-bad l (λ e r q. omega (arith, ap length q, line-length e r))
+
+-- ---- the lines of an input
+
+-- a last line that lacks its line feed is the line that it is with one
+pub last-line : (b : ℕ) (p : List ℕ) → length (b ∷ p) ≤ endOf (b ∷ p) → linesOf ((b ∷ p) ++ (10 ∷ [])) ≡ linesOf (b ∷ p)
+unfolding linesOf
+last-line b p h =
+    let f = free (b ∷ p) h in
+    let u = lines-glue (b ∷ p) [] f in
+    let v = lines-glue (b ∷ p) (10 ∷ []) f in
+    v ∙ glue-some (b ∷ p) [] [] ∙ ap (λ (x : List ℕ). x ∷ []) (append-nil (b ∷ p)) ∙ sym (glue-none b p) ∙ sym u ∙ ap linesOf (append-nil (b ∷ p))
 
 -- ---- a run of lines
 

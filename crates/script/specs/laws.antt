@@ -1,3 +1,4 @@
 pub mod Decimal
 pub mod Field
+pub mod Lines
 pub mod Stream

@@ -1,5 +1,4 @@
 // Answer lines, written into a buffer that the caller lends.
-ghost use mathlib.Core.Path.{_≡_};
 ghost use Prim.Native.Nat.{_+_, _≤_};
 ghost use lib.ListN.{length};
 ghost use Rattle.script.specs.Text.{decimal};

@@ -1,17 +1,17 @@
 -- A number that is written is read back, and what is read as a number is one that is written.
 use Prim.Native.Nat.{ℕ, zero, suc, _+_, _*_, _-_, _/_, _%_, _^_, _≤_, _<_}
-use mathlib.Core.Path.{_≡_, refl, sym, ap, _∙_}
+use mathlib.Core.Path.{_≡_, refl, sym, _∙_}
 use mathlib.Core.Bool.{Bool, true, false, cond}
 use mathlib.Core.List.{List, [], _∷_, _++_, append-assoc}
 use mathlib.Core.Logic.{_⊎_, inl, inr, ⊎-elim}
 use native.Mathlib.Nat.{pow-suc}
 use native.Mathlib.Omega.{arith}
-use borrow.Author.Tests.{lt-ltb, le-ltb, le-leb, lt-leb, ne-eqb, ltb-true, ltb-false, leb-true, eqb-false}
+use borrow.Author.Tests.{lt-ltb, le-ltb, le-leb, ne-eqb, ltb-true, ltb-false, leb-true, eqb-false}
 use lib.ListN.{length, length-append}
 use lib.Dec.{ltb, leb, eqb}
 use Rattle.script.specs.Text.{spelled, decimal}
 use Rattle.script.specs.EventLine.{Short}
-use Rattle.script.specs.Cursor.{Rest, rest, mismatch, isDigit, takesDigit, digitsOf, firstOf}
+use Rattle.script.specs.Cursor.{rest, mismatch, isDigit, takesDigit, digitsOf, firstOf}
 
 -- a test, with what it says
 pub data Tested (b : Bool) : Type 0 where

@@ -1,13 +1,13 @@
 -- A key and a number: what is written is read back, and what is read is what is written. Then lines of none to three numbers.
 use Prim.Native.Nat.{ℕ}
-use mathlib.Core.Path.{_≡_, refl, sym, ap, _∙_}
+use mathlib.Core.Path.{_≡_, refl, _∙_}
 use mathlib.Core.List.{List, [], _∷_, _++_, append-nil}
 use borrow.Author.Tests.{eq-eqb, eqb-true}
 use lib.Dec.{eqb}
 use Rattle.script.specs.Text.{decimal}
 use Rattle.script.specs.EventLine.{Short}
 use Rattle.script.specs.Cursor.{Rest, rest, mismatch, afterKey, literalOf, numberOf, fieldOf}
-use Rattle.script.specs.laws.Decimal.{Tested, holds, fails, tested, never, Read, number-sound, Stops, number-read}
+use Rattle.script.specs.laws.Decimal.{holds, fails, tested, never, number-sound, Stops, number-read}
 
 key-read : (k r : List ℕ) (a b c : ℕ) → afterKey k (k ++ r) a b c ≡ rest r a b c
 unfolding afterKey

@@ -5,7 +5,7 @@ use native.Mathlib.Omega.{arith}
 use borrow.Author.Needs.{needs}
 use lib.ListN.{length}
 use mathlib.Core.Path.{_≡_, refl}
-use Prim.Native.Nat.{ℕ, _-_, _<_, _≤_}
+use Prim.Native.Nat.{ℕ, _-_}
 use Rattle.lamptwin.proofs.stream.drain.Statement.{statement}
 use Rattle.lamptwin.proofs.stream.drain.Tie as tie
 

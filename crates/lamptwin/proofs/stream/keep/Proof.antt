@@ -4,7 +4,7 @@ use native.Mathlib.Omega.{arith}
 use borrow.Author.Needs.{needs}
 use lib.ListN.{length, take, drop, length-set}
 use mathlib.Core.Path.{_≡_, refl}
-use Prim.Native.Nat.{ℕ, _-_, _<_, _≤_, min}
+use Prim.Native.Nat.{_-_, _≤_, min}
 use Rattle.lamptwin.proofs.stream.keep.Statement.{statement}
 use Rattle.lamptwin.proofs.stream.keep.Tie as tie
 

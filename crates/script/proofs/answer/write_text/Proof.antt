@@ -1,12 +1,10 @@
-use mathlib.Core.Path.{_∙_}
 use Rattle.script.proofs.Buffer.{write-more, write-done}
 use denote.Ref.{now}
-use native.Mathlib.Omega.{arith}
 use borrow.Author.Needs.{needs}
 use lib.Seq.{paste, paste-zero}
 use lib.ListN.{length, length-set}
 use mathlib.Core.Path.{_≡_}
-use Prim.Native.Nat.{_-_, _<_, _≤_}
+use Prim.Native.Nat.{_-_, _≤_}
 use Rattle.script.proofs.answer.write_text.Statement.{statement}
 use Rattle.script.proofs.answer.write_text.Tie as tie
 

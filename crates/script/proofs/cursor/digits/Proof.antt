@@ -6,7 +6,7 @@ use Rattle.script.specs.Cursor.{digitsOf}
 use borrow.Author.Needs.{needs}
 use lib.ListN.{length, drop, getD}
 use mathlib.Core.Path.{_≡_, sym, _∙_}
-use Prim.Native.Nat.{_-_, _<_}
+use Prim.Native.Nat.{_-_}
 use Rattle.script.proofs.cursor.digits.Statement.{statement}
 use Rattle.script.proofs.cursor.digits.Tie as tie
 

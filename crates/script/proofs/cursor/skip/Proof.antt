@@ -4,7 +4,7 @@ use Rattle.script.specs.Cursor.{afterKey}
 use borrow.Author.Needs.{needs}
 use lib.ListN.{length, drop}
 use mathlib.Core.Path.{_≡_, sym, _∙_}
-use Prim.Native.Nat.{_-_, _<_}
+use Prim.Native.Nat.{_-_}
 use Rattle.script.proofs.cursor.skip.Statement.{statement}
 use Rattle.script.proofs.cursor.skip.Tie as tie
 

@@ -1,5 +1,4 @@
 use borrow.Author.Tests.{ne-eqb}
-use Rattle.script.specs.Parse.{shapeBy}
 use Rattle.script.proofs.parser.by_letters.Statement.{statement}
 use Rattle.script.proofs.parser.by_letters.Tie as tie
 

@@ -1,0 +1,51 @@
+-- Laws of the lines of an input: bytes without a line feed are the start of its first line.
+use Prim.Native.Nat.{ℕ, zero, suc, _≤_}
+use mathlib.Core.Path.{_≡_, refl, ap}
+use mathlib.Core.Bool.{false}
+use mathlib.Core.List.{List, [], _∷_, _++_}
+use native.Mathlib.Nat.{le-of-suc-le-suc}
+use native.Mathlib.Omega.{arith}
+use lib.ListN.{length, take}
+use lib.Dec.{eqb}
+use Rattle.script.specs.laws.Decimal.{holds, fails, tested}
+use Rattle.script.specs.Lines.{linesOf, endOf, onto}
+
+-- no line feed
+unfoldable pub Free : List ℕ → Type 0
+Free [] = Unit {0}
+Free (b ∷ p) = (eqb b 10 ≡ false) × Free p
+
+pub free : (p : List ℕ) → length p ≤ endOf p → Free p
+unfolding Free endOf
+free [] h = tt
+free (b ∷ p) h =
+    elim (tested (eqb b 10)) [
+      | holds e ↦ absurd (omega (arith, rw e at h))
+      | fails e ↦ (e, free p (le-of-suc-le-suc (rw e at h)))
+    ]
+
+pub free-take : (n : ℕ) (p : List ℕ) → Free p → Free (take n p)
+unfolding Free
+free-take zero p f = tt
+free-take (suc n) [] f = tt
+free-take (suc n) (b ∷ p) f = (f .0, free-take n p (f .1))
+
+-- bytes without a line feed in front of the first line
+unfoldable pub glue : List ℕ → List (List ℕ) → List (List ℕ)
+glue [] ls = ls
+glue (b ∷ p) ls = onto b (glue p ls)
+
+pub lines-glue : (p t : List ℕ) → Free p → linesOf (p ++ t) ≡ glue p (linesOf t)
+unfolding Free glue linesOf
+lines-glue [] t f = refl
+lines-glue (b ∷ p) t f = rw (f .0) (ap (onto b) (lines-glue p t (f .1)))
+
+pub glue-some : (p l : List ℕ) (ls : List (List ℕ)) → glue p (l ∷ ls) ≡ (p ++ l) ∷ ls
+unfolding glue
+glue-some [] l ls = refl
+glue-some (b ∷ p) l ls = ap (onto b) (glue-some p l ls)
+
+pub glue-none : (b : ℕ) (p : List ℕ) → glue (b ∷ p) [] ≡ (b ∷ p) ∷ []
+unfolding glue
+glue-none b [] = refl
+glue-none b (d ∷ p) = ap (onto b) (glue-none d p)
