@@ -12,7 +12,9 @@ mod devices;
 mod place;
 mod signals;
 
+pub use devices::device_at;
 pub use devices::is_ok;
+pub use devices::with_device;
 
 pub struct Bus {
     pub phase: Phase,

@@ -32,7 +32,7 @@ fn is_write(phase: Phase) -> bool
     }
 }
 
-fn is_read(phase: Phase) -> bool
+pub fn is_read(phase: Phase) -> bool
     ensures { λ r. ⌜ r ≡ isRead phase ⌝ }
 {
     match phase {

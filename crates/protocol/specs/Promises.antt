@@ -11,7 +11,7 @@ use Rattle.chip.specs.laws.Logic.{by-cases}
 use Rattle.device.specs.Fields.{withStage, withControl, withEffective}
 use Rattle.device.specs.Registers.{isAwake}
 use Rattle.device.specs.Reset.{resetOf}
-use Rattle.device.specs.WellFormed.{recordOk, stageFits, wellFormed}
+use Rattle.device.specs.WellFormed.{isRead, recordOk, stageFits, wellFormed}
 use Rattle.device.specs.Promises.{reset-well}
 use Rattle.device.specs.laws.WellFormed.{ok, fits, well, well-formed-ok, zero-within, WellIn}
 use Rattle.device.specs.declared.Device.{Device}
@@ -23,7 +23,7 @@ use Rattle.protocol.specs.Selection.{startedOf, answers, stageAfter, pha
 use Rattle.protocol.specs.Write.{pointedAt, wakes, countAfter, storedIn, isCallByte, takenAt, takenBy}
 use Rattle.protocol.specs.Put.{heardBy}
 use Rattle.protocol.specs.Read.{isTalking, movedOn, gottenFrom, phaseAfterGet}
-use Rattle.protocol.specs.Signal.{takesPut, isReading, inTurn, phaseAfterPut, phaseAfterSignal, deviceAfter}
+use Rattle.protocol.specs.Signal.{takesPut, inTurn, phaseAfterPut, phaseAfterSignal, deviceAfter}
 use Rattle.protocol.specs.declared.Signal.{Signal}
 use Rattle.protocol.specs.declared.Signal.the-variants.{Start, Stop, Put, Get}
 use Rattle.protocol.specs.Stop.{committed, effectOfStop, tookReset, stoppedOf}
@@ -128,7 +128,7 @@ put-well P.Idle byte d t h = absurd (false≢true t)
 put-well P.Read byte d t h = absurd (false≢true t)
 put-well P.Ended byte d t h = absurd (false≢true t)
 
-get-well : (p : Phase) (ack : Bool) (d : Device) → isReading p ≡ true → WellIn p d → WellIn (phaseAfterGet ack) (gottenFrom ack d)
+get-well : (p : Phase) (ack : Bool) (d : Device) → isRead p ≡ true → WellIn p d → WellIn (phaseAfterGet ack) (gottenFrom ack d)
 get-well P.Read ack d t h = gotten-well ack d h
 get-well P.Idle ack d t h = absurd (false≢true t)
 get-well P.Address ack d t h = absurd (false≢true t)

@@ -1,6 +1,7 @@
 -- What goes over the bus for all devices alike: START, STOP, a byte put and a get. The message's phase follows them alone, never an acknowledgement.
 use Prim.Native.Nat.{ℕ}
 use mathlib.Core.Bool.{Bool, true, false}
+use Rattle.device.specs.WellFormed.{isRead}
 use Rattle.device.specs.declared.Device.{Device}
 use Rattle.device.specs.declared.Phase.{Phase}
 use Rattle.device.specs.declared.Phase.the-variants as P
@@ -25,19 +26,12 @@ isOpen P.Write = true
 isOpen P.Read = true
 isOpen P.Ended = true
 
-abbrev pub isReading : Phase → Bool
-isReading P.Idle = false
-isReading P.Address = false
-isReading P.Write = false
-isReading P.Read = true
-isReading P.Ended = false
-
 -- 01's "out of turn": stop, put or get with no message open; put in a read after its address; get before the address, in a write, or after a get with ack 0
 abbrev pub inTurn : Phase → Signal → Bool
 inTurn p Start = true
 inTurn p Stop = isOpen p
 inTurn p (Put byte) = takesPut p
-inTurn p (Get ack) = isReading p
+inTurn p (Get ack) = isRead p
 
 -- the phase after a put, which its address byte decides
 abbrev pub phaseAfterPut : Phase → ℕ → Phase

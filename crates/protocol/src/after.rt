@@ -3,7 +3,7 @@ use crate::Signal;
 use device::Device;
 use device::Phase;
 ghost use mathlib.Core.Path.{_≡_};
-ghost use Rattle.protocol.specs.Signal.{takesPut, isOpen, isReading, inTurn, phaseAfterPut, phaseAfterSignal, deviceAfter};
+ghost use Rattle.protocol.specs.Signal.{takesPut, isOpen, inTurn, phaseAfterPut, phaseAfterSignal, deviceAfter};
 
 fn takes_put(phase: Phase) -> bool
     ensures { λ r. ⌜ r ≡ takesPut phase ⌝ }
@@ -29,18 +29,6 @@ pub fn is_open(phase: Phase) -> bool
     }
 }
 
-fn is_reading(phase: Phase) -> bool
-    ensures { λ r. ⌜ r ≡ isReading phase ⌝ }
-{
-    match phase {
-        Phase::Idle => false,
-        Phase::Address => false,
-        Phase::Write => false,
-        Phase::Read => true,
-        Phase::Ended => false,
-    }
-}
-
 pub fn in_turn(phase: Phase, signal: Signal) -> bool
     ensures { λ r. ⌜ r ≡ inTurn phase signal ⌝ }
 {
@@ -48,7 +36,7 @@ pub fn in_turn(phase: Phase, signal: Signal) -> bool
         Signal::Start => true,
         Signal::Stop => is_open(phase),
         Signal::Put(_) => takes_put(phase),
-        Signal::Get(_) => is_reading(phase),
+        Signal::Get(_) => device::record::is_read(phase),
     }
 }
 

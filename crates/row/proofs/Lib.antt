@@ -1,0 +1,3 @@
+pub mod Values
+pub mod Lies
+pub mod Passes

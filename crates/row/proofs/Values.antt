@@ -1,0 +1,42 @@
+-- The machine values of what the walks pass and return, and that a value has its own.
+use mathlib.Core.List.{[], _∷_}
+use mir.Val.{Val}
+use denote.Laws.{Is}
+use denote.Struct.Laws as LL
+use denote.Enum.Laws as EL
+use Rattle.device.specs.declared.Device.{Device}
+use Rattle.device.specs.declared.Phase.{Phase}
+use Rattle.bus.specs.declared.Event.{Event}
+use Rattle.row.specs.declared.RowReply.{RowReply}
+use Rattle.device.proofs.Device as T
+use Rattle.device.proofs.Device.Laws as T′
+use Rattle.device.proofs.Phase as F
+use Rattle.device.proofs.Phase.Laws as F′
+use Rattle.bus.proofs.Event as G
+use Rattle.bus.proofs.Event.Laws as G′
+use Rattle.row.proofs.RowReply as N
+use Rattle.row.proofs.RowReply.Laws as N′
+
+abbrev pub mach : Device → Val
+mach d = LL.val T.the-type T′.the-laws d
+
+abbrev pub f-mach : Phase → Val
+f-mach p = EL.val F.the-type F′.the-laws p
+
+abbrev pub g-mach : Event → Val
+g-mach e = EL.val G.the-type G′.the-laws e
+
+abbrev pub n-mach : RowReply → Val
+n-mach y = LL.val N.the-type N′.the-laws y
+
+abbrev pub IsD : Device → Type 0
+IsD d = Is T.the-row d (mach d ∷ [])
+
+abbrev pub IsF : Phase → Type 0
+IsF p = Is F.the-row p (f-mach p ∷ [])
+
+abbrev pub IsG : Event → Type 0
+IsG e = Is G.the-row e (g-mach e ∷ [])
+
+abbrev pub IsN : RowReply → Type 0
+IsN y = Is N.the-row y (n-mach y ∷ [])

@@ -1,0 +1,4 @@
+pub mod Wait
+pub mod Row
+pub mod Exchange
+pub mod Promises

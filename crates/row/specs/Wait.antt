@@ -1,0 +1,26 @@
+-- A wait of one lent record (01, "one call advances a single lent device record in place by a wait"). The record stands in no message, so its stage is not judged.
+use Prim.Native.Nat.{ℕ}
+use mathlib.Core.Bool.{not, cond}
+use mathlib.Core.List.{List, [], _∷_}
+use lib.Dec.{eqb}
+use Rattle.device.specs.WellFormed.{recordOk}
+use Rattle.device.specs.Wait.{overruns, waitedOf}
+use Rattle.device.specs.declared.Device.{Device}
+use Rattle.bus.specs.Refusals.{Refusal, refuse, codeOf}
+use Rattle.row.specs.declared.Answer.{Answer}
+use Rattle.row.specs.declared.Waited.{Waited}
+
+-- 4 a record that is not legal; 6 an awake device's count would pass the limit
+abbrev pub recordRefusals : Device → ℕ → List Refusal
+recordRefusals d ticks = refuse 4 (not (recordOk d)) ∷ refuse 6 (overruns d ticks) ∷ []
+
+-- the value of a wait is 0
+unfoldable pub waitAnswer : Device → ℕ → Answer
+waitAnswer d ticks = record { code = codeOf (recordRefusals d ticks); value = 0 }
+
+-- refused, the record stays
+unfoldable pub waitRecord : Device → ℕ → Device
+waitRecord d ticks = cond (eqb (codeOf (recordRefusals d ticks)) 0) (waitedOf d ticks) d
+
+abbrev pub waitedRecord : Device → ℕ → Waited
+waitedRecord d ticks = record { device = waitRecord d ticks; answer = waitAnswer d ticks }

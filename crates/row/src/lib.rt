@@ -1,0 +1,266 @@
+// Calls on device records that are lent.
+use bus::Bus;
+use bus::Event;
+use device::Device;
+use device::Phase;
+ghost use mathlib.Core.Path.{_≡_};
+ghost use Prim.Native.Nat.{_≤_, _<_};
+ghost use Rattle.bus.specs.Refusals.{codeOf};
+ghost use Rattle.row.specs.Wait.{recordRefusals, waitRecord, waitAnswer, waitedRecord};
+ghost use Rattle.row.specs.Row.{isSignal, rowReply, rowAfter, rowOf};
+ghost use Rattle.row.specs.Exchange.{exchangeOf, takenOf, beginOf, indexAfter, movedOn, swapOf};
+
+// The number of a refusal, or 0, and the value.
+pub struct Answer {
+    pub code: u64,
+    pub value: u64,
+}
+
+pub struct Waited {
+    pub device: Device,
+    pub answer: Answer,
+}
+
+fn wait_code(device: Device, ticks: u64) -> u64
+    ensures { λ r. ⌜ r ≡ codeOf (recordRefusals device ticks) ⌝ }
+{
+    if device::record::is_ok(device) {
+        if device::wait::overruns(device, ticks) {
+            6
+        } else {
+            0
+        }
+    } else {
+        4
+    }
+}
+
+// The wait by value: the lent forms only copy and store.
+pub fn waited_record(device: Device, ticks: u64) -> Waited
+    ensures { λ r. ⌜ r ≡ waitedRecord device ticks ⌝ }
+{
+    let code = wait_code(device, ticks);
+    let answer = Answer {
+        code: code,
+        value: 0,
+    };
+    if code == 0 {
+        let next = device::wait::waited(device, ticks);
+        Waited {
+            device: next,
+            answer: answer,
+        }
+    } else {
+        Waited {
+            device: device,
+            answer: answer,
+        }
+    }
+}
+
+// Time passes for a lent record.
+pub fn wait(device: &mut Device, ticks: u64) -> Answer
+    ensures { λ r. ⌜ (now (device .exit) ≡ waitRecord (now (device .entry)) ticks) × (r ≡ waitAnswer (now (device .entry)) ticks) ⌝ }
+{
+    let w = waited_record(*device, ticks);
+    *device = w.device;
+    w.answer
+}
+
+// The same for a caller that has the record by value.
+pub fn wait_of(device: Device, ticks: u64) -> Waited
+    ensures { λ r. ⌜ r ≡ waitedRecord device ticks ⌝ }
+{
+    let mut a = device;
+    let r = wait(&mut a, ticks);
+    Waited {
+        device: a,
+        answer: r,
+    }
+}
+
+// What an event on a row answers, and the phase afterwards.
+pub struct RowReply {
+    pub code: u64,
+    pub value: u64,
+    pub phase: Phase,
+}
+
+// The records of a row and of a bus change places, one at a time; the bus takes the event; they change places again.
+// length records take part, and index is the next of them.
+struct Exchange {
+    bus: Bus,
+    event: Event,
+    length: usize,
+    index: usize,
+    taken: bool,
+    reply: RowReply,
+}
+
+struct Swapped {
+    device: Device,
+    exchange: Exchange,
+}
+
+fn is_signal(event: Event) -> bool
+    ensures { λ r. ⌜ r ≡ isSignal event ⌝ }
+{
+    match event {
+        Event::Add { chip: _, addr: _ } => false,
+        Event::Start => true,
+        Event::Stop => true,
+        Event::Put(_) => true,
+        Event::Get(_) => true,
+        Event::Wait { dev: _, ticks: _ } => false,
+        Event::Oe { dev: _, level: _ } => false,
+        Event::Ext { dev: _, level: _ } => false,
+        Event::Reset { dev: _ } => false,
+        Event::Lit {
+            dev: _,
+            out: _,
+            ticks: _,
+        } => false,
+        Event::Pin { dev: _, out: _ } => false,
+    }
+}
+
+// The exchange before the first record; a code other than 0 is a refusal.
+fn exchange_of(phase: Phase, event: Event, length: usize, code: u64) -> Exchange
+    requires { ⌜ length ≤ 8 ⌝ }
+    ensures { λ r. ⌜ r ≡ exchangeOf phase event length code ⌝ }
+{
+    let empty = bus::empty();
+    let devices = empty.devices;
+    let bus = Bus {
+        phase: phase,
+        count: length as u8,
+        devices: devices,
+    };
+    let reply = RowReply {
+        code: code,
+        value: 0,
+        phase: phase,
+    };
+    Exchange {
+        bus: bus,
+        event: event,
+        length: length,
+        index: 0,
+        taken: false,
+        reply: reply,
+    }
+}
+
+fn take_event(x: Exchange) -> Exchange
+    ensures { λ r. ⌜ r ≡ takenOf x ⌝ }
+{
+    let bus = x.bus;
+    let event = x.event;
+    let answer = bus::calls::step(bus, event);
+    let next = answer.bus;
+    let phase = next.phase;
+    let reply = RowReply {
+        code: answer.code,
+        value: answer.value,
+        phase: phase,
+    };
+    Exchange {
+        bus: next,
+        event: event,
+        length: x.length,
+        index: 0,
+        taken: true,
+        reply: reply,
+    }
+}
+
+// A row that is refused for its length or its event takes part with no record.
+fn begin(length: usize, phase: Phase, event: Event) -> Exchange
+    ensures { λ r. ⌜ r ≡ beginOf length phase event ⌝ }
+{
+    if 8 < length {
+        exchange_of(phase, event, 0, 3)
+    } else if is_signal(event) {
+        if length == 0 {
+            take_event(exchange_of(phase, event, 0, 0))
+        } else {
+            exchange_of(phase, event, length, 0)
+        }
+    } else {
+        exchange_of(phase, event, 0, 4)
+    }
+}
+
+fn index_after(index: usize) -> usize
+    ensures { λ r. ⌜ r ≡ indexAfter index ⌝ }
+{
+    if index < 8 { index + 1 } else { index }
+}
+
+fn move_on(x: Exchange, bus: Bus) -> Exchange
+    ensures { λ r. ⌜ r ≡ movedOn x bus ⌝ }
+{
+    let i = index_after(x.index);
+    let event = x.event;
+    let reply = x.reply;
+    let next = Exchange {
+        bus: bus,
+        event: event,
+        length: x.length,
+        index: i,
+        taken: x.taken,
+        reply: reply,
+    };
+    if i < x.length {
+        next
+    } else if x.taken {
+        next
+    } else {
+        take_event(next)
+    }
+}
+
+fn swap(device: Device, x: Exchange) -> Swapped
+    ensures { λ r. ⌜ r ≡ swapOf device x ⌝ }
+{
+    let bus = x.bus;
+    let i = x.index as u64;
+    let out = bus::device_at(bus, i);
+    let next = move_on(x, bus::with_device(bus, i, device));
+    Swapped {
+        device: out,
+        exchange: next,
+    }
+}
+
+// One start, stop, put or get on a lent row; any other event is refused. The bus judges every record before it changes one.
+pub fn event(row: &mut [Device], phase: Phase, event: Event) -> RowReply
+    ensures { λ r. ⌜ (now (row .exit) ≡ rowAfter (now (row .entry)) phase event) × (r ≡ rowReply (now (row .entry)) phase event) ⌝ }
+{
+    let mut x = begin(row.len(), phase, event);
+    while x.index < x.length {
+        let i = x.index;
+        let s = swap(row[i], x);
+        row[i] = s.device;
+        x = s.exchange;
+    }
+    x.reply
+}
+
+pub struct Rowed {
+    pub devices: [Device; 9],
+    pub reply: RowReply,
+}
+
+// The same on the first n of nine records, for a caller that has them by value.
+pub fn event_of(devices: [Device; 9], n: usize, phase: Phase, event: Event) -> Rowed
+    requires { ⌜ n < 10 ⌝ }
+    ensures { λ r. ⌜ r ≡ rowOf devices n phase event ⌝ }
+{
+    let mut a = devices;
+    let r = crate::event(&mut a[..n], phase, event);
+    Rowed {
+        devices: a,
+        reply: r,
+    }
+}
