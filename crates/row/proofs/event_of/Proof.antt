@@ -1,7 +1,7 @@
 -- `row::event_of` meets its contract: a walk of its MIR, by hand. The first k of the nine devices in a local are lent as a slice for a lifetime that the walk makes, `event` is called with the borrow, the lifetime is ended, and the array is put together of what `event` says that it left and the other devices.
 use mathlib.Core.Path.{_≡_, refl, sym, ap, _∙_, subst}
-use Prim.Native.Nat.{ℕ, zero, suc, _+_, _<_, _≤_, _^_}
-use native.Mathlib.Nat.{le-of-suc-le-suc, not-suc-le-zero, lt-of-le-of-lt, mul-le-mul-right}
+use Prim.Native.Nat.{ℕ, _<_, _≤_, _^_}
+use native.Mathlib.Nat.{le-of-suc-le-suc, lt-of-le-of-lt, mul-le-mul-right}
 use native.Mathlib.Omega.{arith}
 use mathlib.Core.List.{[], _∷_, List, _++_, map}
 use lib.ListN.{length, length-map, take, take-append-drop, drop as drop-list}
@@ -57,7 +57,7 @@ use Rattle.row.specs.declared.Rowed.{Rowed}
 use Rattle.row.specs.declared.RowReply.{RowReply}
 use Rattle.row.specs.Promises.{take-length}
 use Rattle.row.specs.Row.{rowAfter, rowReply, rowOf}
-use Rattle.row.proofs.Values.{mach, f-mach, g-mach, n-mach, IsF, IsG, IsN}
+use Rattle.row.proofs.Values.{mach, f-mach, g-mach, IsF, IsG, IsN}
 use Rattle.device.proofs.Device as T
 use Rattle.device.proofs.Device.Laws as T′
 use Rattle.device.proofs.Phase as F
