@@ -2,6 +2,7 @@
 -- a well-formed bus stays well formed, and is never refused for its shape.
 use mathlib.Core.Path.{_≡_, refl, sym, ap, _∙_}
 use mathlib.Core.Bool.{Bool, true, false, cond, false≢true}
+use mathlib.Core.Logic.{_⊎_, inl, inr}
 use mathlib.Core.List.{List, [], _∷_}
 use Prim.Native.Nat.{ℕ, _+_, _<_}
 use native.Mathlib.Numerals.{add-one}
@@ -13,7 +14,7 @@ use Rattle.chip.specs.Addresses.{addressAllowed}
 use Rattle.chip.specs.declared.Chip.the-variants.{Pca9635}
 use Rattle.chip.specs.declared.Lookup.{Lookup}
 use Rattle.chip.specs.declared.Lookup.the-variants.{Known, Unknown}
-use Rattle.chip.specs.laws.Logic.{and-left, and-right}
+use Rattle.chip.specs.laws.Logic.{and-left, and-right, by-cases}
 use Rattle.device.specs.Fields.{withOe, withLevels}
 use Rattle.device.specs.Reset.{fresh, resetOf}
 use Rattle.device.specs.Wait.{waitedOf}
@@ -29,8 +30,8 @@ use Rattle.protocol.specs.declared.Signal.the-variants as S
 use Rattle.bus.specs.First.{allFirst}
 use Rattle.bus.specs.Refusals.{Refusal, codeOf, holdsAt, risesFrom}
 use Rattle.bus.specs.Bus.{busOk, hasDevice, deviceAt, withDevice, withAdded, busAfter, emptyBus}
-use Rattle.bus.specs.Replies.{refusedWith, answer, signalReply, putReply, getReply, isBarred, addedTo, addReply, waitReply, oeReply, extReply, resetReply, litReply, pinReply}
-use Rattle.bus.specs.Events.{stepReply, stepRefusals, stepDone, runBus}
+use Rattle.bus.specs.Replies.{blinkRefusals, blinkDone, blinkReply, refusedWith, answer, signalReply, putReply, getReply, isBarred, addedTo, addReply, waitReply, oeReply, extReply, resetReply, litReply, pinReply}
+use Rattle.bus.specs.Events.{numberedReply, stepReply, stepRefusals, stepDone, runBus}
 use Rattle.bus.specs.laws.First.{all-at, all-set, all-added, all-mapped}
 use Rattle.bus.specs.laws.Refusals.{NoneHolds, accepted, IsLeast, code-least, least-code}
 use Rattle.bus.specs.declared.Bus.{Bus}
@@ -126,6 +127,30 @@ code-exact b e k p = (
 pub refused-same : (b : Bus) (e : Event) → (stepReply b e .code ≡ 0 → ⊥) → stepReply b e ≡ refusedWith b (stepReply b e .code)
 refused-same b e n =
     rw (step-is b e) (answer-refused (stepRefusals b e) b (stepDone b e) (done-code b e) (λ z. n (ap (λ (r : Reply). r .code) (step-is b e) ∙ z)))
+
+-- the blink-start question
+pub blink-refused : (b : Bus) (dev : ℕ) → (blinkReply b dev .code ≡ 0 → ⊥) → blinkReply b dev ≡ refusedWith b (blinkReply b dev .code)
+unfolding blinkReply
+blink-refused b dev n = answer-refused (blinkRefusals b dev) b (blinkDone b dev) refl n
+
+-- an event by number is an event, or refused with 4; so what holds of events holds of it
+abbrev pub IsNumbered : Bus → Reply → Type 0
+IsNumbered b r = ((e : Event) × (r ≡ stepReply b e)) ⊎ (r ≡ refusedWith b 4)
+
+pub numbered-is : (b : Bus) (number x y z : ℕ) → IsNumbered b (numberedReply b number x y z)
+unfolding numberedReply stepReply
+numbered-is b number x y z =
+    by-cases (IsNumbered b) (eqb number 1) _ _ (λ h. inl (Add x y, refl)) (λ h.
+    by-cases (IsNumbered b) (eqb number 2) _ _ (λ h. inl (Start, refl)) (λ h.
+    by-cases (IsNumbered b) (eqb number 3) _ _ (λ h. inl (Put x, refl)) (λ h.
+    by-cases (IsNumbered b) (eqb number 4) _ _ (λ h. inl (Get x, refl)) (λ h.
+    by-cases (IsNumbered b) (eqb number 5) _ _ (λ h. inl (Stop, refl)) (λ h.
+    by-cases (IsNumbered b) (eqb number 6) _ _ (λ h. inl (Wait x y, refl)) (λ h.
+    by-cases (IsNumbered b) (eqb number 7) _ _ (λ h. inl (Oe x y, refl)) (λ h.
+    by-cases (IsNumbered b) (eqb number 8) _ _ (λ h. inl (Ext x y, refl)) (λ h.
+    by-cases (IsNumbered b) (eqb number 9) _ _ (λ h. inl (Reset x, refl)) (λ h.
+    by-cases (IsNumbered b) (eqb number 10) _ _ (λ h. inl (Lit x y z, refl)) (λ h.
+    by-cases (IsNumbered b) (eqb number 11) _ _ (λ h. inl (Pin x y, refl)) (λ h. inr refl)))))))))))
 
 -- ---- well-formedness
 
