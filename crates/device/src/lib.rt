@@ -1,4 +1,4 @@
-// One device of the bus, by value, and what it does.
+// One device of the bus, by value: its record, and what the record says of itself.
 use chip::Chip;
 ghost use mathlib.Core.Path.{_≡_};
 ghost use Rattle.device.specs.Fields.{withStage, withOe, withLevels};
