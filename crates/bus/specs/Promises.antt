@@ -1,7 +1,7 @@
 -- Promises on every event, for any bus (demand 1): the code is the least number whose condition holds; a refused event has value 0 and leaves the bus as it was;
 -- a well-formed bus stays well formed, and is never refused for its shape.
 use mathlib.Core.Path.{_≡_, refl, sym, ap, _∙_}
-use mathlib.Core.Bool.{Bool, true, false, cond, false≢true}
+use mathlib.Core.Bool.{Bool, true, false, not, cond, or-false, true≢false}
 use mathlib.Core.Logic.{_⊎_, inl, inr}
 use mathlib.Core.List.{List, [], _∷_}
 use Prim.Native.Nat.{ℕ, _+_, _<_}
@@ -33,7 +33,7 @@ use Rattle.bus.specs.Bus.{busOk, hasDevice, deviceAt, withDevice, withAd
 use Rattle.bus.specs.Replies.{blinkRefusals, blinkDone, blinkReply, refusedWith, answer, signalReply, putReply, getReply, isBarred, addedTo, addReply, waitReply, oeReply, extReply, resetReply, litReply, pinReply}
 use Rattle.bus.specs.Events.{numberedReply, stepReply, stepRefusals, stepDone, runBus}
 use Rattle.bus.specs.laws.First.{all-at, all-set, all-added, all-mapped}
-use Rattle.bus.specs.laws.Refusals.{NoneHolds, accepted, IsLeast, code-least, least-code}
+use Rattle.bus.specs.laws.Refusals.{NoneHolds, none-at, accepted, IsLeast, code-least, least-code}
 use Rattle.bus.specs.declared.Bus.{Bus}
 use Rattle.bus.specs.declared.Event.{Event}
 use Rattle.bus.specs.declared.Event.the-variants.{Add, Start, Stop, Put, Get, Wait, Oe, Ext, Reset, Lit, Pin}
@@ -221,11 +221,33 @@ done-well b (Reset dev) h n =
 done-well b (Lit dev out ticks) h n = h
 done-well b (Pin dev out) h n = h
 
--- a well-formed bus stays well formed through every event, accepted or refused
-pub step-well : (b : Bus) (e : Event) → busOk b ≡ true → busOk (stepReply b e .bus) ≡ true
-step-well b e h =
+-- 4 holds of every event exactly where the bus is not well formed
+shape-holds : (b : Bus) (e : Event) → holdsAt (stepRefusals b e) 4 ≡ not (busOk b)
+unfolding stepRefusals
+shape-holds b (Add chip addr) = or-false (not (busOk b))
+shape-holds b Start = or-false (not (busOk b))
+shape-holds b Stop = or-false (not (busOk b))
+shape-holds b (Put byte) = or-false (not (busOk b))
+shape-holds b (Get ack) = or-false (not (busOk b))
+shape-holds b (Wait dev ticks) = or-false (not (busOk b))
+shape-holds b (Oe dev level) = or-false (not (busOk b))
+shape-holds b (Ext dev level) = or-false (not (busOk b))
+shape-holds b (Reset dev) = or-false (not (busOk b))
+shape-holds b (Lit dev out ticks) = or-false (not (busOk b))
+shape-holds b (Pin dev out) = or-false (not (busOk b))
+
+-- an event, accepted or refused, leaves a bus as well formed as it was; one that is not is refused
+pub step-shape : (b : Bus) (e : Event) → busOk (stepReply b e .bus) ≡ busOk b
+step-shape b e =
     rw (step-is b e)
-    (answer-bus (λ (x : Bus). busOk x ≡ true) (stepRefusals b e) b (stepDone b e) (step-rises b e) h (done-well b e h))
+    (answer-bus (λ (x : Bus). busOk x ≡ busOk b) (stepRefusals b e) b (stepDone b e) (step-rises b e) refl (λ n. go n (busOk b) refl))
+  where
+    go : NoneHolds (stepRefusals b e) → (t : Bool) → busOk b ≡ t → busOk (stepDone b e .bus) ≡ busOk b
+    go n true h = done-well b e h n ∙ sym h
+    go n false h = absurd (true≢false (ap not (sym h) ∙ sym (shape-holds b e) ∙ none-at (stepRefusals b e) n 4))
+
+pub step-well : (b : Bus) (e : Event) → busOk b ≡ true → busOk (stepReply b e .bus) ≡ true
+step-well b e h = step-shape b e ∙ h
 
 pub empty-well : busOk emptyBus ≡ true
 unfolding busOk allFirst
@@ -236,20 +258,6 @@ pub run-well : (b : Bus) (l : List Event) → busOk b ≡ true → busOk (runBus
 run-well b [] h = h
 run-well b (e ∷ l) h = run-well (stepReply b e .bus) l (step-well b e h)
 
-shape-holds : (b : Bus) (e : Event) → busOk b ≡ true → holdsAt (stepRefusals b e) 4 ≡ false
-unfolding stepRefusals
-shape-holds b (Add chip addr) h = rw h refl
-shape-holds b Start h = rw h refl
-shape-holds b Stop h = rw h refl
-shape-holds b (Put byte) h = rw h refl
-shape-holds b (Get ack) h = rw h refl
-shape-holds b (Wait dev ticks) h = rw h refl
-shape-holds b (Oe dev level) h = rw h refl
-shape-holds b (Ext dev level) h = rw h refl
-shape-holds b (Reset dev) h = rw h refl
-shape-holds b (Lit dev out ticks) h = rw h refl
-shape-holds b (Pin dev out) h = rw h refl
-
 -- a well-formed bus is never refused for its shape
 pub never-shape : (b : Bus) (e : Event) → busOk b ≡ true → stepReply b e .code ≡ 4 → ⊥
-never-shape b e h c = false≢true (sym (shape-holds b e h) ∙ code-exact b e 4 (omega arith) .0 c .0)
+never-shape b e h c = true≢false (sym (code-exact b e 4 (omega arith) .0 c .0) ∙ shape-holds b e ∙ ap not h)

@@ -4,7 +4,7 @@ use crate::Reply;
 use chip::Chip;
 use chip::Lookup;
 ghost use mathlib.Core.Path.{_≡_};
-ghost use Prim.Native.Nat.{_≤_, _<_};
+ghost use Prim.Native.Nat.{_<_};
 ghost use Rattle.device.specs.Reset.{fresh};
 ghost use Rattle.bus.specs.Refusals.{codeOf};
 ghost use Rattle.bus.specs.Bus.{busOk, withAdded};

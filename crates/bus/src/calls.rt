@@ -1,9 +1,8 @@
-// The calls on a bus. Each judges the bus that it is handed, and none asks anything of its caller.
+// The calls on a bus. Each judges the bus that it is handed and asks nothing of its caller, but for `step_judged`.
 use crate::Bus;
 use crate::Event;
 use crate::Reply;
 ghost use mathlib.Core.Path.{_≡_};
-ghost use mathlib.Core.Bool.{true};
 ghost use Rattle.bus.specs.Bus.{busOk};
 ghost use Rattle.bus.specs.Replies.{addReply, startReply, stopReply, putReply, getReply, waitReply, oeReply, extReply, resetReply, litReply, pinReply, blinkReply};
 ghost use Rattle.bus.specs.Events.{stepReply, numberedReply};
@@ -81,8 +80,8 @@ pub fn blink_start(bus: Bus, dev: u64) -> Reply
     crate::place::blink_start(crate::devices::is_ok(bus), bus, dev)
 }
 
-// An event is the call of its name. ok says whether the bus is well formed.
-fn judged(ok: bool, bus: Bus, event: Event) -> Reply
+// An event is the call of its name. ok says whether the bus is well formed: a loop that carries it need not judge the bus at every event.
+pub fn step_judged(ok: bool, bus: Bus, event: Event) -> Reply
     requires { ⌜ ok ≡ busOk bus ⌝ }
     ensures { λ r. ⌜ r ≡ stepReply bus event ⌝ }
 {
@@ -104,15 +103,7 @@ fn judged(ok: bool, bus: Bus, event: Event) -> Reply
 pub fn step(bus: Bus, event: Event) -> Reply
     ensures { λ r. ⌜ r ≡ stepReply bus event ⌝ }
 {
-    judged(crate::devices::is_ok(bus), bus, event)
-}
-
-// The same for a loop that made its bus itself, and has shown that it is well formed: the bus is not judged again.
-pub fn step_well_formed(bus: Bus, event: Event) -> Reply
-    requires { ⌜ busOk bus ≡ true ⌝ }
-    ensures { λ r. ⌜ r ≡ stepReply bus event ⌝ }
-{
-    judged(true, bus, event)
+    step_judged(crate::devices::is_ok(bus), bus, event)
 }
 
 // For callers that have no enum: 1 add, 2 start, 3 put, 4 get, 5 stop, 6 wait, 7 oe, 8 ext, 9 reset, 10 lit, 11 pin.

@@ -7,7 +7,7 @@ use lamp::DriverMode;
 use lamp::DriverTicks;
 ghost use mathlib.Core.Path.{_≡_};
 ghost use mathlib.Core.Bool.{cond};
-ghost use Prim.Native.Nat.{_^_, _<_, _≤_};
+ghost use Prim.Native.Nat.{_^_, _<_};
 ghost use Rattle.lamp.specs.Window.{countedTicks};
 ghost use Rattle.chip.specs.Kinds.{outputsOf};
 ghost use Rattle.device.specs.Output.{pairOf, driverOutput, blinkerMode, blinkerOutput, lampLit, litNow, litOf, undriven, disabledPin, driverPin, pinOf, inputBit, inputByte};

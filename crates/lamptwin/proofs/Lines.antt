@@ -7,18 +7,19 @@ use mathlib.Core.Logic.{_⊎_, ⊎-elim}
 use native.Mathlib.Numerals.{add-one, unary-clauses}
 use native.Mathlib.Nat.{le-of-suc-le-suc, add-comm, zero-min, min-zero, suc-min-suc}
 use native.Mathlib.Omega.{arith}
-use lib.ListN.{length, take, drop, getD, set, length-append, length-drop, take-append-drop}
+use lib.ListN.{length, take, drop, getD, set, length-append, length-take, length-drop, take-append-drop}
 use lib.Seq.{take-add, take-all, length-take-le, take-suc, take-suc-set, drop-set-lt, drop-drop, getD-drop, take-nil}
 use lib.Dec.{eqb}
-use Rattle.bus.specs.Bus.{busOk}
+use borrow.Rule.Slice.PartMut.{putMid, take-put}
 use Rattle.script.specs.laws.Decimal.{holds, fails, tested, lt-or-ge}
-use Rattle.script.specs.Promises.{after-well}
+use Rattle.script.specs.Promises.{last-line}
 use Rattle.script.specs.Lines.{linesOf, endOf, Whole}
 use Rattle.script.specs.Run.{after, afterLine, answers, Runs}
+use Rattle.script.specs.laws.Lines.{free, free-end, free-take}
 use Rattle.script.specs.laws.Stream.{truncated-answers}
 use Rattle.script.specs.declared.batch.State.{State}
 use Rattle.script.specs.declared.batch.Ran.{Ran}
-use Rattle.lamptwin.specs.Stream.{Reached, Drains, Kept, Fed, closed, Finishes}
+use Rattle.lamptwin.specs.Stream.{Reached, Drains, Kept, Unfinished, Fed, Finishes}
 use Rattle.lamptwin.specs.declared.stream.Drained.{Drained}
 
 whole-both : (p q : List ℕ) → Whole p → Whole q → Whole (p ++ q)
@@ -32,9 +33,6 @@ after-both s (l ∷ ls) ms = after-both (afterLine s l) ls ms
 pub reached-none : (s : State) (input : List ℕ) → Reached s input 0 s
 unfolding linesOf after
 reached-none s input = record { within = omega arith; whole = record { lines = λ t. refl }; state-is = refl }
-
-pub reached-well : {s : State} {input : List ℕ} {read : ℕ} {state : State} → Reached s input read state → busOk (s .bus) ≡ true → busOk (state .bus) ≡ true
-reached-well {s} a h = rw (a .state-is) (after-well s _ h)
 
 module _ (s : State) (input : List ℕ) (from : ℕ) (state : State) (a : Reached s input from state)
     (old new part : List ℕ) (r : Ran) (e : part ≡ take (length input - from) (drop from input)) (b : Runs state part old new r) where
@@ -105,22 +103,45 @@ drop-take (suc a) zero l = let z : 0 - suc a ≡ 0 = omega arith in rw z
 drop-take (suc a) (suc n) [] = sym (take-nil (suc n - suc a))
 drop-take (suc a) (suc n) (x ∷ l) = simp unary-clauses (drop-take a n l)
 
-fed-same : (s : State) (old new : List ℕ) (end : ℕ) (d : Drained) (r : ℕ) → end ≤ length old → Drains s (take end old) d → Kept old (d .read) end new r
-    → d .is_open ≡ true → (t : List ℕ) → after (d .state) (linesOf (take r new ++ t)) ≡ after s (linesOf (take end old ++ t))
-fed-same s old new end d r h a k o t =
-    let w = take end old in
-    let p = drop (d .read) w in
-    let kept-is : take r new ≡ take 81 p =
-    k .text ∙ ap (λ (n : ℕ). take n (drop (d .read) old)) (k .count) ∙ take-min 81 (end - d .read) (drop (d .read) old) ∙ ap (take 81) (sym (drop-take (d .read) end old)) in
-    let n : length p ≤ endOf p = rw length-drop (omega (arith, a .stop o)) in
-    let q : w ++ t ≡ take (d .read) w ++ (p ++ t) = ap (λ (x : List ℕ). x ++ t) (sym (take-append-drop (d .read) w)) ∙ append-assoc (take (d .read) w) p t in
-    rw (kept-is, q, a .reached .whole .lines (p ++ t), after-both, ← a .reached .state-is) (truncated-answers (d .state) p t n .1)
+module _ (s : State) (old new : List ℕ) (end : ℕ) (d : Drained) (r : ℕ) (h : end ≤ length old) (a : Drains s (take end old) d) (k : Kept old (d .read) end new r) (o : d .is_open ≡ true) where
+  rest : List ℕ
+  rest = drop (d .read) (take end old)
 
-pub fed : (s : State) (old new part : List ℕ) (end : ℕ) (d : Drained) (r : ℕ) → busOk (s .bus) ≡ true → end ≤ length old → part ≡ take (end - 0) old → Drains s part d → Kept old (d .read) end new r
+  rest-is : rest ≡ take (end - d .read) (drop (d .read) old)
+  unfolding rest
+  rest-is = drop-take (d .read) end old
+
+  kept-is : take r new ≡ take 81 rest
+  kept-is =
+      k .text ∙ ap (λ (n : ℕ). take n (drop (d .read) old)) (k .count) ∙ take-min 81 (end - d .read) (drop (d .read) old) ∙ ap (take 81) (sym rest-is)
+
+  begun : length rest ≤ endOf rest
+  unfolding rest
+  begun = rw length-drop (omega (arith, a .stop o))
+
+  kept-unfinished : Unfinished new r
+  kept-unfinished =
+      let e : endOf (take r new) ≡ length (take 81 rest) = rw kept-is (free-end (take 81 rest) (free-take 81 rest (free rest begun))) in
+      let n : length rest ≡ end - d .read = rw (rest-is, length-take, length-drop) (omega arith) in
+      rw (e, length-take) (omega (arith, k .count))
+
+  kept-same : (t : List ℕ) → after (d .state) (linesOf (take r new ++ t)) ≡ after s (linesOf (take end old ++ t))
+  unfolding rest
+  kept-same t =
+      let w = take end old in
+      let q : w ++ t ≡ take (d .read) w ++ (rest ++ t) = ap (λ (x : List ℕ). x ++ t) (sym (take-append-drop (d .read) w)) ∙ append-assoc (take (d .read) w) rest t in
+      rw (kept-is, q, a .reached .whole .lines (rest ++ t), after-both, ← a .reached .state-is) (truncated-answers (d .state) rest t begun .1)
+
+pub fed : (s : State) (old new part : List ℕ) (end : ℕ) (d : Drained) (r : ℕ) → end ≤ length old → part ≡ take (end - 0) old → Drains s part d → Kept old (d .read) end new r
     → Fed s (take end old) new (record { state = d .state; have = r; is_open = d .is_open })
-fed s old new part end d r w h e a k =
+fed s old new part end d r h e a k =
     let z : end - 0 ≡ end = omega arith in
-    record { well = reached-well (a .reached) w; few = omega (arith, k .count); same = fed-same s old new end d r h (rw (e, z) at a) k }
+    let b : Drains s (take end old) d = rw (e, z) at a in
+    record { few = omega (arith, k .count); unfinished = kept-unfinished s old new end d r h b k; same = kept-same s old new end d r h b k }
+
+-- a read goes behind the bytes kept, and leaves them
+pub unfinished-read : (buf got : List ℕ) (have n : ℕ) → have ≤ length buf → Unfinished buf have → Unfinished (putMid have n buf got) have
+unfinished-read buf got have n h u = rw (take-put have n buf got h) u
 
 -- at the end of the input
 end-fed : (q : List ℕ) → endOf (q ++ (10 ∷ [])) ≤ length q
@@ -147,17 +168,18 @@ read-whole s p d a o =
     (λ (h : length p + 1 ≤ d .read). a .reached .state-is ∙ rw (take-all (d .read) (p ++ (10 ∷ [])) (rw length-append (omega arith))))
     (lt-or-ge (d .read) (length p + 1))
 
-closed-some : (p : List ℕ) → (length p ≡ 0 → ⊥) → closed p ≡ p ++ (10 ∷ [])
-closed-some [] h = absurd (h refl)
-closed-some (b ∷ p) h = refl
-
 pub finished-none : (s : State) (buf : List ℕ) (have : ℕ) → have ≡ 0 → Finishes s (take have buf) (record { state = s; read = 0; is_open = true })
 unfolding linesOf after
 finished-none s buf have e = record { state-is = λ o. rw e }
 
-pub finished : (s : State) (buf part : List ℕ) (have : ℕ) (d : Drained) → (have ≡ 0 → ⊥) → have < length buf → part ≡ take (have + 1 - 0) (set buf have 10) → Drains s part d → Finishes s (take have buf) d
-finished s buf part have d n h e a =
+-- the line feed that the last line lacks makes no other line
+last-ended : (p : List ℕ) → (length p ≡ 0 → ⊥) → length p ≤ endOf p → linesOf (p ++ (10 ∷ [])) ≡ linesOf p
+last-ended [] n h = absurd (n refl)
+last-ended (b ∷ p) n h = last-line b p h
+
+pub finished : (s : State) (buf part : List ℕ) (have : ℕ) (d : Drained) → Unfinished buf have → (have ≡ 0 → ⊥) → have < length buf → part ≡ take (have + 1 - 0) (set buf have 10) → Drains s part d → Finishes s (take have buf) d
+finished s buf part have d u n h e a =
     let z : have + 1 - 0 ≡ suc have = omega arith in
     let q : part ≡ take have buf ++ (10 ∷ []) = e ∙ rw z (take-suc-set buf have 10 h) in
-    let c = closed-some (take have buf) (λ l. n (sym (length-take-le have buf (omega arith)) ∙ l)) in
-    record { state-is = λ o. rw c (read-whole s (take have buf) d (rw q at a) o) }
+    let l : length (take have buf) ≡ have = length-take-le have buf (omega arith) in
+    record { state-is = λ o. read-whole s (take have buf) d (rw q at a) o ∙ ap (after s) (last-ended (take have buf) (λ m. n (sym l ∙ m)) (omega arith)) }

@@ -2,9 +2,8 @@
 use Prim.Native.Nat.{ℕ, _+_, _-_, _≤_, min}
 use mathlib.Core.Path.{_≡_}
 use mathlib.Core.Bool.{true}
-use mathlib.Core.List.{List, [], _∷_, _++_}
+use mathlib.Core.List.{List, _++_}
 use lib.ListN.{length, take, drop}
-use Rattle.bus.specs.Bus.{busOk}
 use Rattle.script.specs.Lines.{linesOf, endOf, Whole}
 use Rattle.script.specs.Run.{after}
 use Rattle.script.specs.declared.batch.State.{State}
@@ -27,17 +26,16 @@ pub record Kept (old : List ℕ) (from end : ℕ) (new : List ℕ) (r : ℕ) : T
   pub count : r ≡ min 81 (end - from)
   pub text : take r new ≡ take r (drop from old)
 
+-- the first n bytes are of one line, whose end is still to come
+abbrev pub Unfinished : List ℕ → ℕ → Type 0
+Unfinished buf n = n ≤ endOf (take n buf)
+
 -- the state and the bytes kept stand for the state and the bytes before: whatever comes, the end is the same
 pub record Fed (s : State) (input new : List ℕ) (r : Turn) : Type 0 where
-  pub well : busOk (r .state .bus) ≡ true
   pub few : r .have ≤ 81
+  pub unfinished : r .is_open ≡ true → Unfinished new (r .have)
   pub same : r .is_open ≡ true → (t : List ℕ) → after (r .state) (linesOf (take (r .have) new ++ t)) ≡ after s (linesOf (input ++ t))
 
--- what is left of the input at its end, with the line feed that it lacks
-abbrev pub closed : List ℕ → List ℕ
-closed [] = []
-closed (b ∷ p) = (b ∷ p) ++ (10 ∷ [])
-
--- its line is answered, if the output stays open
+-- the line that is left at the end of the input is answered, if the output stays open
 pub record Finishes (s : State) (left : List ℕ) (r : Drained) : Type 0 where
-  pub state-is : r .is_open ≡ true → r .state ≡ after s (linesOf (closed left))
+  pub state-is : r .is_open ≡ true → r .state ≡ after s (linesOf left)

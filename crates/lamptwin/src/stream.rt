@@ -3,8 +3,7 @@ ghost use mathlib.Core.Path.{_≡_};
 ghost use mathlib.Core.Bool.{true};
 ghost use Prim.Native.Nat.{_<_, _≤_, min};
 ghost use lib.ListN.{length, take};
-ghost use Rattle.bus.specs.Bus.{busOk};
-ghost use Rattle.lamptwin.specs.Stream.{Drains, Kept, Fed, Finishes};
+ghost use Rattle.lamptwin.specs.Stream.{Drains, Kept, Unfinished, Fed, Finishes};
 use libc::STDIN_FILENO;
 use libc::STDOUT_FILENO;
 use script::State;
@@ -25,7 +24,7 @@ pub struct Drained {
 
 // Answers every complete line of input.
 fn drain(first: State, input: &[u8], out: &mut [u8]) -> Drained
-    requires { ⌜ (busOk (first .bus) ≡ true) × (76 ≤ length (now out)) ⌝ }
+    requires { ⌜ 76 ≤ length (now out) ⌝ }
     ensures { λ r. ⌜ Drains first (now (input .entry)) r ⌝ }
 {
     let mut state = first;
@@ -79,7 +78,7 @@ fn keep(buf: &mut [u8], from: usize, end: usize) -> usize
 
 // The end of the input: a last line that lacks its line feed is answered as if it had one.
 fn finish(state: State, have: usize, buf: &mut [u8], out: &mut [u8]) -> Drained
-    requires { ⌜ (busOk (state .bus) ≡ true) × (have < length (now buf)) × (76 ≤ length (now out)) ⌝ }
+    requires { ⌜ Unfinished (now buf) have × (have < length (now buf)) × (76 ≤ length (now out)) ⌝ }
     ensures { λ r. ⌜ Finishes state (take have (now (buf .entry))) r ⌝ }
 {
     if have == 0 {
@@ -95,7 +94,7 @@ fn finish(state: State, have: usize, buf: &mut [u8], out: &mut [u8]) -> Drained
 
 // Answers each line that is complete in the first `end` bytes. What is kept, with what is to come, stands for all of them.
 fn feed(state: State, end: usize, buf: &mut [u8], out: &mut [u8]) -> Turn
-    requires { ⌜ (busOk (state .bus) ≡ true) × (end ≤ length (now buf)) × (76 ≤ length (now out)) ⌝ }
+    requires { ⌜ (end ≤ length (now buf)) × (76 ≤ length (now out)) ⌝ }
     ensures { λ r. ⌜ Fed state (take end (now (buf .entry))) (now (buf .exit)) r ⌝ }
 {
     let d = drain(state, &buf[0..end], out);
@@ -111,8 +110,8 @@ fn feed(state: State, end: usize, buf: &mut [u8], out: &mut [u8]) -> Turn
 
 // Reads once, and answers each line that is complete.
 pub fn take_turn(state: State, have: usize, buf: &mut [u8], out: &mut [u8]) -> Turn
-    requires { ⌜ (busOk (state .bus) ≡ true) × (have ≤ 81) × (81 < length (now buf)) × (76 ≤ length (now out)) ⌝ }
-    ensures { λ r. ⌜ (busOk (r .state .bus) ≡ true) × (r .have ≤ 81) ⌝ }
+    requires { ⌜ Unfinished (now buf) have × (have ≤ 81) × (81 < length (now buf)) × (76 ≤ length (now out)) ⌝ }
+    ensures { λ r. ⌜ (r .is_open ≡ true → Unfinished (now (buf .exit)) (r .have)) × (r .have ≤ 81) ⌝ }
 {
     let got = libc::read(STDIN_FILENO, &mut buf[have..]);
     let n = io::count(got, &buf[have..]);

@@ -1,3 +1,4 @@
 pub mod Scanning
 pub mod Buffer
 pub mod Running
+pub mod WholeLog

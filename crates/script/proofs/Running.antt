@@ -44,7 +44,7 @@ first-line (b ∷ l) t h =
       | fails e ↦ rw (e) (ap (onto b) (first-line l t (le-of-suc-le-suc (rw e at h))))
     ]
 
-answers-more : (s : State) (ls : List (List ℕ)) (l : List ℕ) → answers s (ls ++ (l ∷ [])) ≡ answers s ls ++ answerTo (after s ls) l
+pub answers-more : (s : State) (ls : List (List ℕ)) (l : List ℕ) → answers s (ls ++ (l ∷ [])) ≡ answers s ls ++ answerTo (after s ls) l
 unfolding answers after
 answers-more s [] l = append-nil _
 answers-more s (k ∷ ls) l = ap (λ (t : List ℕ). answerTo s k ++ t) (answers-more (afterLine s k) ls l) ∙ sym (append-assoc (answerTo s k) _ _)

@@ -5,5 +5,6 @@ pub mod Parse
 pub mod AnswerLine
 pub mod Lines
 pub mod Run
+pub mod Log
 pub mod Promises
 pub mod laws

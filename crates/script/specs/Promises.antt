@@ -1,23 +1,23 @@
 -- Promises on the text: an event line is read back as its event, every other line is Bad; a run keeps the bus well formed and counts its lines.
-use Prim.Native.Nat.{ℕ, _+_, _^_, _<_, _≤_}
+use Prim.Native.Nat.{ℕ, _+_, _*_, _^_, _<_, _≤_}
 use mathlib.Core.Path.{_≡_, refl, sym, ap, _∙_}
-use mathlib.Core.Bool.{true}
 use mathlib.Core.List.{List, [], _∷_, _++_, append-nil}
 use native.Mathlib.Omega.{arith}
 use borrow.Author.Tests.{lt-ltb}
 use lib.ListN.{length, length-append}
 use Rattle.script.specs.Text.{text}
-use Rattle.script.specs.laws.Decimal.{short}
-use Rattle.script.specs.laws.Lines.{free, lines-glue, glue-some, glue-none}
+use Rattle.script.specs.laws.Decimal.{short, decimal-length}
+use Rattle.script.specs.laws.Lines.{free, lines-glue, glue-some, one-line}
 use Rattle.script.specs.Lines.{linesOf, endOf}
+use Rattle.script.specs.AnswerLine.{answerLine}
 use Rattle.script.specs.EventLine.{lineOf, InRange}
 use Rattle.script.specs.Cursor.{Rest, rest, mismatch}
 use Rattle.script.specs.Parse.{shapeOf, scanned, eventOf, finish, parsed}
 use Rattle.script.specs.laws.Field.{none-sound, one-sound, two-sound, three-sound, none-read, one-back, two-back, three-back}
-use Rattle.script.specs.Run.{replyBy, replyTo, nextNumber, afterLine, after}
+use Rattle.script.specs.Run.{replyBy, replyTo, nextNumber, afterLine, after, answerTo, answers}
 use Rattle.script.specs.declared.batch.State.{State}
 use Rattle.bus.specs.Bus.{busOk}
-use Rattle.bus.specs.Promises.{step-well}
+use Rattle.bus.specs.Promises.{step-shape}
 use Rattle.bus.specs.declared.Bus.{Bus}
 use Rattle.bus.specs.declared.Event.{Event}
 use Rattle.bus.specs.declared.Event.the-variants as E
@@ -102,26 +102,23 @@ long-bad l h = line-bad l (λ e r q. omega (arith, ap length q, line-length e r)
 pub last-line : (b : ℕ) (p : List ℕ) → length (b ∷ p) ≤ endOf (b ∷ p) → linesOf ((b ∷ p) ++ (10 ∷ [])) ≡ linesOf (b ∷ p)
 unfolding linesOf
 last-line b p h =
-    let f = free (b ∷ p) h in
-    let u = lines-glue (b ∷ p) [] f in
-    let v = lines-glue (b ∷ p) (10 ∷ []) f in
-    v ∙ glue-some (b ∷ p) [] [] ∙ ap (λ (x : List ℕ). x ∷ []) (append-nil (b ∷ p)) ∙ sym (glue-none b p) ∙ sym u ∙ ap linesOf (append-nil (b ∷ p))
+    lines-glue (b ∷ p) (10 ∷ []) (free (b ∷ p) h) ∙ glue-some (b ∷ p) [] [] ∙ ap (λ (x : List ℕ). x ∷ []) (append-nil (b ∷ p)) ∙ sym (one-line b p h)
 
 -- ---- a run of lines
 
--- a well-formed bus stays well formed through a line, and through any lines
-pub reply-well : (b : Bus) (l : List ℕ) → busOk b ≡ true → busOk (replyTo b l .bus) ≡ true
+-- a line leaves a bus as well formed as it was, and so do any lines
+pub reply-shape : (b : Bus) (l : List ℕ) → busOk (replyTo b l .bus) ≡ busOk b
 unfolding replyTo
-reply-well b l h = go (parsed l)
+reply-shape b l = go (parsed l)
   where
-    go : (p : Parsed) → busOk (replyBy b p .bus) ≡ true
-    go (P.Event e) = step-well b e h
-    go P.Bad = h
+    go : (p : Parsed) → busOk (replyBy b p .bus) ≡ busOk b
+    go (P.Event e) = step-shape b e
+    go P.Bad = refl
 
-pub after-well : (s : State) (ls : List (List ℕ)) → busOk (s .bus) ≡ true → busOk (after s ls .bus) ≡ true
+pub after-shape : (s : State) (ls : List (List ℕ)) → busOk (after s ls .bus) ≡ busOk (s .bus)
 unfolding after afterLine
-after-well s [] h = h
-after-well s (l ∷ ls) h = after-well (afterLine s l) ls (reply-well (s .bus) l h)
+after-shape s [] = refl
+after-shape s (l ∷ ls) = after-shape (afterLine s l) ls ∙ reply-shape (s .bus) l
 
 -- as many lines are counted as there are
 pub lines-counted : (s : State) (ls : List (List ℕ)) → s .lines + length ls < 2 ^ 64 → after s ls .lines ≡ s .lines + length ls
@@ -130,3 +127,13 @@ lines-counted s [] h = omega arith
 lines-counted s (l ∷ ls) h =
     let e : nextNumber (s .lines) ≡ s .lines + 1 = rw (lt-ltb (s .lines) 18446744073709551615 (omega arith)) in
     lines-counted (afterLine s l) ls (rw e (omega arith)) ∙ rw e (omega arith)
+
+-- ---- a whole log
+
+-- no answer takes more than 76 bytes, so a buffer with room for each keeps its length
+pub answers-room : (s : State) (ls : List (List ℕ)) → length (answers s ls) ≤ 76 * length ls
+unfolding answers answerTo answerLine
+answers-room s [] = omega arith
+answers-room s (l ∷ ls) =
+    simp length-append
+    (omega (arith, decimal-length (nextNumber (s .lines)), decimal-length (replyTo (s .bus) l .code), decimal-length (replyTo (s .bus) l .value), answers-room (afterLine s l) ls))

@@ -1,6 +1,5 @@
 // From the bytes of some lines to the bytes of their answers.
 ghost use mathlib.Core.Path.{_≡_};
-ghost use mathlib.Core.Bool.{true};
 ghost use Rattle.bus.specs.Bus.{busOk};
 ghost use Rattle.script.specs.Run.{freshState, nextNumber, replyTo, ranTo, Runs};
 use crate::answer::write_answer;
@@ -34,20 +33,20 @@ pub fn fresh() -> State
 }
 
 // A line's number is one more than that of the line before; no run gets to the largest u64, where it stays.
-fn next_number(n: u64) -> u64
+pub fn next_number(n: u64) -> u64
     ensures { λ r. ⌜ r ≡ nextNumber n ⌝ }
 {
     if n < u64::MAX { n + 1 } else { n }
 }
 
-// What a line is answered with.
-fn reply_to(bus: Bus, line: &[u8]) -> Reply
-    requires { ⌜ busOk bus ≡ true ⌝ }
+// What a line is answered with. ok says whether the bus is well formed.
+pub fn reply_to(ok: bool, bus: Bus, line: &[u8]) -> Reply
+    requires { ⌜ ok ≡ busOk bus ⌝ }
     ensures { λ r. ⌜ r ≡ replyTo bus (now (line .entry)) ⌝ }
 {
     let parsed = parse(line);
     match parsed {
-        Parsed::Event(event) => bus::calls::step_well_formed(bus, event),
+        Parsed::Event(event) => bus::calls::step_judged(ok, bus, event),
         Parsed::Bad => bus::refused(bus, 4),
     }
 }
@@ -59,9 +58,9 @@ fn ran_to(read: usize, wrote: usize, lines: u64, bus: Bus) -> Ran
     Ran { read, wrote, state }
 }
 
-// Answers the complete lines of input, one after the other, while out has room for an answer.
+// Answers the complete lines of input, one after the other, while out has room for an answer. The bus is judged once: no event changes
+// whether it is well formed.
 pub fn run(first: State, input: &[u8], out: &mut [u8]) -> Ran
-    requires { ⌜ busOk (first .bus) ≡ true ⌝ }
     ensures { λ r. ⌜ Runs first (now (input .entry)) (now (out .entry)) (now (out .exit)) r ⌝ }
 {
     let mut lines = first.lines;
@@ -72,12 +71,13 @@ pub fn run(first: State, input: &[u8], out: &mut [u8]) -> Ran
         return ran_to(from, at, lines, bus);
     }
     let most = out.len() - 76;
+    let ok = bus::is_ok(bus);
     while at <= most {
         let end = line_end(input, from);
         if input.len() <= end {
             return ran_to(from, at, lines, bus);
         }
-        let r = reply_to(bus, &input[from..end]);
+        let r = reply_to(ok, bus, &input[from..end]);
         let n = next_number(lines);
         at = write_answer(n, r.code, r.value, out, at);
         lines = n;

@@ -15,6 +15,10 @@ abbrev pub NoneHolds : List Refusal → Type 0
 NoneHolds [] = Unit {0}
 NoneHolds (r ∷ l) = (r .holds ≡ false) × NoneHolds l
 
+pub none-at : (l : List Refusal) → NoneHolds l → (k : ℕ) → holdsAt l k ≡ false
+none-at [] n k = refl
+none-at (r ∷ l) n k = rw (n .0, and-false (eqb (r .number) k)) (none-at l (n .1) k)
+
 pub accepted : (low : ℕ) (l : List Refusal) → risesFrom low l ≡ true → codeOf l ≡ 0 → NoneHolds l
 unfolding codeOf
 accepted low [] h e = tt

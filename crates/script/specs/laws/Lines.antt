@@ -1,8 +1,8 @@
 -- Laws of the lines of an input: bytes without a line feed are the start of its first line.
 use Prim.Native.Nat.{ℕ, zero, suc, _≤_}
-use mathlib.Core.Path.{_≡_, refl, ap}
+use mathlib.Core.Path.{_≡_, refl, sym, ap, _∙_}
 use mathlib.Core.Bool.{false}
-use mathlib.Core.List.{List, [], _∷_, _++_}
+use mathlib.Core.List.{List, [], _∷_, _++_, append-nil}
 use native.Mathlib.Nat.{le-of-suc-le-suc}
 use native.Mathlib.Omega.{arith}
 use lib.ListN.{length, take}
@@ -23,6 +23,11 @@ free (b ∷ p) h =
       | holds e ↦ absurd (omega (arith, rw e at h))
       | fails e ↦ (e, free p (le-of-suc-le-suc (rw e at h)))
     ]
+
+pub free-end : (p : List ℕ) → Free p → endOf p ≡ length p
+unfolding Free endOf
+free-end [] f = refl
+free-end (b ∷ p) f = rw (f .0) (ap suc (free-end p (f .1)))
 
 pub free-take : (n : ℕ) (p : List ℕ) → Free p → Free (take n p)
 unfolding Free
@@ -49,3 +54,21 @@ pub glue-none : (b : ℕ) (p : List ℕ) → glue (b ∷ p) [] ≡ (b ∷ p) ∷
 unfolding glue
 glue-none b [] = refl
 glue-none b (d ∷ p) = ap (onto b) (glue-none d p)
+
+-- bytes without a line feed are one line
+pub one-line : (b : ℕ) (p : List ℕ) → length (b ∷ p) ≤ endOf (b ∷ p) → linesOf (b ∷ p) ≡ (b ∷ p) ∷ []
+unfolding linesOf
+one-line b p h = ap linesOf (sym (append-nil (b ∷ p))) ∙ lines-glue (b ∷ p) [] (free (b ∷ p) h) ∙ glue-none b p
+
+-- some bytes have some line
+pub some-line : (b : ℕ) (p : List ℕ) → 1 ≤ length (linesOf (b ∷ p))
+unfolding linesOf
+some-line b p =
+    elim (tested (eqb b 10)) [
+      | holds e ↦ rw e (omega arith)
+      | fails e ↦ rw e (put-some b (linesOf p))
+    ]
+  where
+    put-some : (x : ℕ) (ls : List (List ℕ)) → 1 ≤ length (onto x ls)
+    put-some x [] = omega arith
+    put-some x (l ∷ ls) = omega arith

@@ -1,4 +1,4 @@
-use Rattle.lamptwin.proofs.Lines.{reached-none, reached-well, reached-more, reached-same, none-left}
+use Rattle.lamptwin.proofs.Lines.{reached-none, reached-more, reached-same, none-left}
 use Rattle.lamptwin.specs.Stream.{Reached}
 use denote.Ref.{now}
 use native.Mathlib.Omega.{arith}
@@ -17,9 +17,6 @@ abbrev μ-loop : tie.MeasureT-loop
 
 loop-holds : tie.Need-loop-holds Inv-loop μ-loop
 loop-holds c = let a = c .before .before in (reached-none (a .args .first) (now (a .args .input)), search needs)
-
-run-requires : tie.Need-run-requires Inv-loop μ-loop
-run-requires c κs = let l = c .before .before .before in reached-well (l .loop .inv .0) (l .before .before .before .pre .0)
 
 returns : tie.Need-returns Inv-loop μ-loop
 returns c = let u = c .before .before .before .before .before in let l = u .before .before .before .before in let a = l .before .before .before in record { reached = reached-same (a .args .first) (now (a .args .input)) (l .loop .from) (l .loop .state) (l .loop .inv .0) (l .loop .out) _ _ (u .run .result) refl (u .run .ensures) (c .if1 .taken); stop = λ w. none-left (a .args .first) (now (a .args .input)) (l .loop .from) (l .loop .state) (l .loop .inv .0) (l .loop .out) _ _ (u .run .result) refl (u .run .ensures) (c .if1 .taken) (omega arith) }
@@ -43,7 +40,7 @@ drain-spec =
     (λ c. search needs)
     (λ c. search needs)
     (λ c. search needs)
-    run-requires
+    (λ c κs. search needs)
     (λ c. search needs)
     returns
     (λ c. search needs)

@@ -6,7 +6,7 @@ use Rattle.lamptwin.proofs.stream.feed.Statement.{statement}
 use Rattle.lamptwin.proofs.stream.feed.Tie as tie
 
 returns : tie.Need-returns
-returns c = let k = c .before .before .before in let d = k .before .before .before .before in let a = d .before .before .before .before .before .before in fed (a .args .state) (now (a .args .buf)) _ _ (a .args .end) (d .drain .result) (k .keep .result) (a .pre .0) (a .pre .1) refl (d .drain .ensures) (k .keep .ensures)
+returns c = let k = c .before .before .before in let d = k .before .before .before .before in let a = d .before .before .before .before .before .before in fed (a .args .state) (now (a .args .buf)) _ _ (a .args .end) (d .drain .result) (k .keep .result) (a .pre .0) refl (d .drain .ensures) (k .keep .ensures)
 
 pub feed-spec : {M : Type 1} → statement M
 feed-spec =

@@ -14,7 +14,7 @@ part-drain-end : tie.Need-part-drain-end
 part-drain-end c = simp length-set (omega arith)
 
 returns-2 : tie.Need-returns-2
-returns-2 c = let d = c .before .before in let e = d .before .before .before .before in let a = e .before .before .before in finished (a .args .state) (now (a .args .buf)) _ (a .args .have) (d .drain .result) (e .if1 .left) (a .pre .1) refl (d .drain .ensures)
+returns-2 c = let d = c .before .before in let e = d .before .before .before .before in let a = e .before .before .before in finished (a .args .state) (now (a .args .buf)) _ (a .args .have) (d .drain .result) (a .pre .0) (e .if1 .left) (a .pre .1) refl (d .drain .ensures)
 
 pub finish-spec : {M : Type 1} → statement M
 finish-spec =

@@ -5,7 +5,7 @@ use Rattle.script.proofs.batch.reply_to.Tie as tie
 
 returns : tie.Need-returns
 unfolding replyTo
-returns c = rw (← c .before .before .before .before .parse .ensures, c .before .before .parsed .given .1) (c .step-well-formed .ensures)
+returns c = rw (← c .before .before .before .before .parse .ensures, c .before .before .parsed .given .1) (c .step-judged .ensures)
 
 returns-2 : tie.Need-returns-2
 unfolding replyTo

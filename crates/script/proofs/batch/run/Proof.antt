@@ -1,29 +1,29 @@
 use Rattle.script.proofs.Running.{did-none, did-more, runs-to}
-use Rattle.script.specs.Promises.{reply-well}
+use Rattle.script.specs.Promises.{reply-shape}
 use Rattle.script.specs.Run.{Did}
 use Rattle.bus.specs.Bus.{busOk}
 use denote.Ref.{now}
 use native.Mathlib.Omega.{arith}
 use borrow.Author.Needs.{needs}
 use lib.ListN.{length}
-use mathlib.Core.Bool.{true}
+use Rattle.bus.specs.declared.Reply.{Reply}
 use mathlib.Core.Logic.{inl, inr}
-use mathlib.Core.Path.{_≡_}
+use mathlib.Core.Path.{_≡_, sym, ap, _∙_}
 use Prim.Native.Nat.{_+_, _-_}
 use Rattle.script.proofs.batch.run.Statement.{statement}
 use Rattle.script.proofs.batch.run.Tie as tie
 
 abbrev Inv-loop : tie.InvT-loop
-Inv-loop input out₀ lines₀ bus₀ from₀ at₀ most out lines bus from at = Did (record { lines = lines₀; bus = bus₀ }) input out₀ out from at (record { lines = lines; bus = bus }) × (busOk bus ≡ true) × (length out ≡ length out₀) × (most + 76 ≡ length out₀)
+Inv-loop input out₀ lines₀ bus₀ from₀ at₀ most ok out lines bus from at = Did (record { lines = lines₀; bus = bus₀ }) input out₀ out from at (record { lines = lines; bus = bus }) × (ok ≡ busOk bus) × (length out ≡ length out₀) × (most + 76 ≡ length out₀)
 
 abbrev μ-loop : tie.MeasureT-loop
-μ-loop input out₀ lines₀ bus₀ from₀ at₀ most out lines bus from at = length input - from
+μ-loop input out₀ lines₀ bus₀ from₀ at₀ most ok out lines bus from at = length input - from
 
 returns : tie.Need-returns Inv-loop μ-loop
 returns c = let a = c .before .before .before .before .before in runs-to (c .ran-to .result) (c .ran-to .ensures) (did-none (a .args .first) (now (a .args .input)) (now (a .args .out))) (inr (omega arith))
 
 loop-holds : tie.Need-loop-holds Inv-loop μ-loop
-loop-holds c = let a = c .before .before .before .before in (did-none (a .args .first) (now (a .args .input)) (now (a .args .out)), a .pre, search needs, search needs)
+loop-holds c = let a = c .before .before .before .before .before in (did-none (a .args .first) (now (a .args .input)) (now (a .args .out)), c .is-ok .ensures, search needs, search needs)
 
 returns-2 : tie.Need-returns-2 Inv-loop μ-loop
 returns-2 c = let e = c .before .before in runs-to (c .ran-to2 .result) (c .ran-to2 .ensures) (e .before .before .loop .inv .0) (inl (rw (e .line-end .ensures) at (c .before .if2 .taken)))
@@ -32,7 +32,7 @@ reply-to-requires : tie.Need-reply-to-requires Inv-loop μ-loop
 reply-to-requires c κs = c .before .before .before .before .loop .inv .1
 
 loop-again : tie.Need-loop-again Inv-loop μ-loop
-loop-again c = let p = c .before .before .before in let n = p .before .before in let r = n .before in let e = r .before .before .before in let l = e .before .before in (did-more _ _ _ _ _ _ _ _ (l .loop .inv .0) (e .line-end .result) (e .line-end .ensures) (r .before .before .if2 .left) (r .reply-to .result) (n .next-number .result) _ _ (r .reply-to .ensures) (n .next-number .ensures) (p .write-answer .ensures), rw (r .reply-to .ensures) (reply-well _ _ (l .loop .inv .1)), search needs, search needs)
+loop-again c = let p = c .before .before .before in let n = p .before .before in let r = n .before in let e = r .before .before .before in let l = e .before .before in (did-more _ _ _ _ _ _ _ _ (l .loop .inv .0) (e .line-end .result) (e .line-end .ensures) (r .before .before .if2 .left) (r .reply-to .result) (n .next-number .result) _ _ (r .reply-to .ensures) (n .next-number .ensures) (p .write-answer .ensures), l .loop .inv .1 ∙ sym (reply-shape _ _) ∙ sym (ap (λ (x : Reply). busOk (x .bus)) (r .reply-to .ensures)), search needs, search needs)
 
 returns-3 : tie.Need-returns-3 Inv-loop μ-loop
 returns-3 c = runs-to (c .ran-to3 .result) (c .ran-to3 .ensures) (c .before .before .loop .inv .0) (inr (omega arith))
@@ -46,6 +46,7 @@ run-spec =
     (λ c κs. search needs)
     returns
     (λ c. search needs)
+    (λ c κs. search needs)
     loop-holds
     (λ c κs. search needs)
     (λ c κs. search needs)

@@ -1,7 +1,7 @@
 use Rattle.bus.specs.Events.{stepReply}
 use borrow.Author.Needs.{needs}
-use Rattle.bus.proofs.calls.judged.Statement.{statement}
-use Rattle.bus.proofs.calls.judged.Tie as tie
+use Rattle.bus.proofs.calls.step_judged.Statement.{statement}
+use Rattle.bus.proofs.calls.step_judged.Tie as tie
 
 returns : tie.Need-returns
 unfolding stepReply
@@ -47,8 +47,8 @@ returns-11 : tie.Need-returns-11
 unfolding stepReply
 returns-11 c = simp (c .pin .ensures, c .before .before .event9 .given .1)
 
-pub judged-spec : {M : Type 1} → statement M
-judged-spec =
+pub step-judged-spec : {M : Type 1} → statement M
+step-judged-spec =
     tie.close
     (tie.spec
     (λ c. search needs)

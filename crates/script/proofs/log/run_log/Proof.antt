@@ -1,0 +1,49 @@
+use Rattle.script.proofs.WholeLog.{no-room, all-read, room-there, last-answered}
+use mathlib.Core.Path.{refl}
+use borrow.Author.Needs.{needs}
+use Rattle.script.proofs.log.run_log.Statement.{statement}
+use Rattle.script.proofs.log.run_log.Tie as tie
+
+returns : tie.Need-returns
+returns c = no-room _ _ _ (c .before .lines-in .ensures) (c .if1 .taken)
+
+returns-2 : tie.Need-returns-2
+returns-2 c =
+    let u = c .before .before .before in
+    let f = u .before .before in
+    let l = f .before in
+    all-read _ _ _ _ (l .before .lines-in .ensures) (l .if1 .left) _ (rw (f .fresh .ensures) at (u .run .ensures)) (c .if2 .taken)
+
+answer-last-requires : tie.Need-answer-last-requires
+answer-last-requires c κs =
+    let i = c .before .before .before in
+    let u = i .before .before .before in
+    let f = u .before .before in
+    let l = f .before in
+    room-there _ _ _ _ (l .before .lines-in .ensures) (l .if1 .left) _ (rw (f .fresh .ensures) at (u .run .ensures)) (i .if2 .left)
+
+returns-3 : tie.Need-returns-3
+returns-3 c =
+    let a = c .before .before in
+    let i = a .before .before .before .before in
+    let u = i .before .before .before in
+    let f = u .before .before in
+    let l = f .before in
+    last-answered _ _ _ _ (l .before .lines-in .ensures) (l .if1 .left) _ (rw (f .fresh .ensures) at (u .run .ensures)) (i .if2 .left) _ _ _ refl (a .answer-last .ensures)
+
+pub run-log-spec : {M : Type 1} → statement M
+run-log-spec =
+    tie.close
+    (tie.spec
+    (λ c κs. search needs)
+    returns
+    (λ c κs. search needs)
+    (λ c κs. search needs)
+    (λ c. search needs)
+    returns-2
+    (λ c. search needs)
+    (λ c. search needs)
+    (λ c. search needs)
+    answer-last-requires
+    (λ c. search needs)
+    returns-3)
