@@ -1,0 +1,19 @@
+// The static library for C and Rust: what library/include/lamptwin.h declares. A slice arrives as a pointer and a length.
+ghost use mathlib.Core.Path.{_≡_};
+ghost use lib.ListN.{length};
+ghost use Rattle.script.specs.Lines.{linesOf};
+ghost use Rattle.script.specs.Log.{RunsLog};
+
+#[no_mangle]
+pub extern "C" fn lamptwin_lines(log: &[u8]) -> usize
+    ensures { λ r. ⌜ r ≡ length (linesOf (now (log .entry))) ⌝ }
+{
+    script::lines_in(log)
+}
+
+#[no_mangle]
+pub extern "C" fn lamptwin_run(log: &[u8], answers: &mut [u8]) -> usize
+    ensures { λ r. ⌜ RunsLog (now (log .entry)) (now (answers .entry)) (now (answers .exit)) r ⌝ }
+{
+    script::run_log(log, answers)
+}
