@@ -1,4 +1,5 @@
-//! Comparison of an external program with the model on generated logs.
+//! Comparison of the twin with the model on generated logs: the linked
+//! library against the model, and the built program against the library.
 
 use crate::{generate, text};
 use std::io::{self, Write};
@@ -8,13 +9,38 @@ use std::thread;
 /// Shares of damage that the seeds take in turn.
 const DAMAGE_SHARES: [u64; 8] = [0, 2, 5, 10, 1, 20, 40, 80];
 
-/// Most runs of the program spent on shortening a failing log.
+/// Most runs of the twin spent on shortening a failing log.
 const MAX_SHORTENING_RUNS: usize = 3000;
 
-/// A log on which the program and the model differ.
+/// Which two answers are compared.
+#[derive(Debug, Clone, Copy, PartialEq, Eq)]
+pub enum Pair {
+    ModelAndLibrary,
+    LibraryAndProgram,
+}
+
+impl Pair {
+    pub fn names(self) -> (&'static str, &'static str) {
+        match self {
+            Pair::ModelAndLibrary => ("model", "library"),
+            Pair::LibraryAndProgram => ("library", "program"),
+        }
+    }
+
+    /// Both answers to a log.
+    pub fn answers(self, program: &str, log: &[u8]) -> io::Result<(Vec<u8>, Vec<u8>)> {
+        Ok(match self {
+            Pair::ModelAndLibrary => (text::run(log), lamptwin::run(log)),
+            Pair::LibraryAndProgram => (lamptwin::run(log), run_program(program, log)?),
+        })
+    }
+}
+
+/// A log to which the two answers differ.
 pub struct Mismatch {
     pub seed: u64,
     pub damage: u64,
+    pub pair: Pair,
     pub log: Vec<u8>,
     pub expected: Vec<u8>,
     pub actual: Vec<u8>,
@@ -31,32 +57,40 @@ pub fn damage_share(seed: u64) -> u64 {
     DAMAGE_SHARES[(seed % DAMAGE_SHARES.len() as u64) as usize]
 }
 
-/// Runs the program on the logs of seeds 1 to `seeds`, until one differs.
-pub fn compare(program: &str, seeds: u64, lines: usize) -> io::Result<Outcome> {
+/// Compares on the logs of the seeds, from the first on, until answers differ.
+pub fn compare(program: &str, first: u64, seeds: u64, lines: usize) -> io::Result<Outcome> {
     let mut outcome = Outcome {
         logs: 0,
         lines: 0,
         mismatch: None,
     };
-    for seed in 1..=seeds {
-        let damage = damage_share(seed);
-        let log = generate::log(seed, lines, damage);
-        let expected = text::run(&log);
-        let actual = run_program(program, &log)?;
+    for seed in first..first + seeds {
+        let log = generate::log(seed, lines, damage_share(seed));
         outcome.logs += 1;
         outcome.lines += text::lines(&log).count() as u64;
-        if actual != expected {
-            outcome.mismatch = Some(Mismatch {
-                seed,
-                damage,
-                log,
-                expected,
-                actual,
-            });
+        outcome.mismatch = difference(program, seed, &log)?;
+        if outcome.mismatch.is_some() {
             break;
         }
     }
     Ok(outcome)
+}
+
+fn difference(program: &str, seed: u64, log: &[u8]) -> io::Result<Option<Mismatch>> {
+    for pair in [Pair::ModelAndLibrary, Pair::LibraryAndProgram] {
+        let (expected, actual) = pair.answers(program, log)?;
+        if expected != actual {
+            return Ok(Some(Mismatch {
+                seed,
+                damage: damage_share(seed),
+                pair,
+                log: log.to_vec(),
+                expected,
+                actual,
+            }));
+        }
+    }
+    Ok(None)
 }
 
 /// The standard output of the program when fed the log.
@@ -90,14 +124,14 @@ pub fn line_text(bytes: &[u8], number: usize) -> String {
     }
 }
 
-/// The shortest log found on which the program still differs.
+/// The shortest log found to which the two answers still differ.
 pub fn shorten_for(program: &str, mismatch: &Mismatch) -> Vec<u8> {
     let mut runs = 0;
     let first = first_difference(&mismatch.expected, &mismatch.actual);
     shorten(&mismatch.log, first, |log| {
         runs += 1;
-        runs <= MAX_SHORTENING_RUNS
-            && run_program(program, log).is_ok_and(|actual| actual != text::run(log))
+        let answers = mismatch.pair.answers(program, log);
+        runs <= MAX_SHORTENING_RUNS && answers.is_ok_and(|(expected, actual)| expected != actual)
     })
 }
 

@@ -1,14 +1,15 @@
-//! `compare model` answers a log, `compare generate` writes one, and
-//! `compare check` compares another program with the model.
+//! `compare model` answers a log, `compare generate` writes one, `compare
+//! check` compares the twin with the model, and `compare time` times both.
 
-use compare::{check, generate, text};
+use compare::{check, generate, text, timing};
 use std::env;
 use std::io::{self, Read, Write};
 use std::process::ExitCode;
 
 const USAGE: &str = "usage: compare model
        compare generate SEED LINES DAMAGE_PERCENT
-       compare check PROGRAM SEEDS LINES";
+       compare check PROGRAM FIRST_SEED SEEDS LINES
+       compare time LINES RUNS";
 
 fn main() -> ExitCode {
     let arguments: Vec<String> = env::args().skip(1).collect();
@@ -19,8 +20,14 @@ fn main() -> ExitCode {
             (Ok(seed), Ok(lines), Ok(damage)) => write_log(seed, lines, damage),
             _ => return usage(),
         },
-        ["check", program, seeds, lines] => match (seeds.parse(), lines.parse()) {
-            (Ok(seeds), Ok(lines)) => check_program(program, seeds, lines),
+        ["check", program, first, seeds, lines] => {
+            match (first.parse(), seeds.parse(), lines.parse()) {
+                (Ok(first), Ok(seeds), Ok(lines)) => check_twin(program, first, seeds, lines),
+                _ => return usage(),
+            }
+        }
+        ["time", lines, runs] => match (lines.parse(), runs.parse()) {
+            (Ok(lines), Ok(runs)) if runs > 0 => time_both(lines, runs),
             _ => return usage(),
         },
         _ => return usage(),
@@ -48,8 +55,8 @@ fn write_log(seed: u64, lines: usize, damage: u64) -> io::Result<ExitCode> {
     Ok(ExitCode::SUCCESS)
 }
 
-fn check_program(program: &str, seeds: u64, lines: usize) -> io::Result<ExitCode> {
-    let outcome = check::compare(program, seeds, lines)?;
+fn check_twin(program: &str, first: u64, seeds: u64, lines: usize) -> io::Result<ExitCode> {
+    let outcome = check::compare(program, first, seeds, lines)?;
     if let Some(mismatch) = &outcome.mismatch {
         print_mismatch(program, mismatch);
     }
@@ -65,21 +72,37 @@ fn print_mismatch(program: &str, mismatch: &check::Mismatch) {
         "mismatch at seed {}, damage {} percent",
         mismatch.seed, mismatch.damage
     );
-    print_difference(&mismatch.log, &mismatch.expected, &mismatch.actual);
+    let pair = mismatch.pair;
+    print_difference(pair, &mismatch.log, &mismatch.expected, &mismatch.actual);
     let short = check::shorten_for(program, mismatch);
     println!("shortest failing log found:");
     for line in text::lines(&short) {
         println!("{}", line.escape_ascii());
     }
-    if let Ok(actual) = check::run_program(program, &short) {
-        print_difference(&short, &text::run(&short), &actual);
+    if let Ok((expected, actual)) = pair.answers(program, &short) {
+        print_difference(pair, &short, &expected, &actual);
     }
 }
 
-fn print_difference(log: &[u8], expected: &[u8], actual: &[u8]) {
+fn print_difference(pair: check::Pair, log: &[u8], expected: &[u8], actual: &[u8]) {
     let number = check::first_difference(expected, actual);
+    let (one, other) = pair.names();
     println!("first difference at line {number}:");
     println!("  event:   {}", check::line_text(log, number));
-    println!("  model:   {}", check::line_text(expected, number));
-    println!("  program: {}", check::line_text(actual, number));
+    println!("  {one}: {}", check::line_text(expected, number));
+    println!("  {other}: {}", check::line_text(actual, number));
+}
+
+fn time_both(lines: usize, runs: usize) -> io::Result<ExitCode> {
+    for seed in timing::SEEDS {
+        let log = generate::log(seed, lines, 0);
+        let times = timing::time(&log, runs);
+        println!(
+            "seed {seed}: model {:.0}, library {:.0} lines per second; the library takes {:.2} times as long",
+            times.lines_per_second(times.model),
+            times.lines_per_second(times.library),
+            times.ratio(),
+        );
+    }
+    Ok(ExitCode::SUCCESS)
 }

@@ -1,0 +1,33 @@
+/* The lamp twin as a static library: the answers to a whole log of bus events, from an empty bus.
+ *
+ * Link with libffi.a (made by `rt staticlib ffi`). Nothing checks these declarations against the source, crates/ffi/src/lib.rt;
+ * the tests under library/ do. No call keeps a pointer, allocates, or depends on an earlier call. */
+#ifndef LAMPTWIN_H
+#define LAMPTWIN_H
+
+#include <stddef.h>
+#include <stdint.h>
+
+#ifdef __cplusplus
+extern "C" {
+#endif
+
+/* No answer line is longer, its line feed included. */
+#define LAMPTWIN_ANSWER_ROOM 76
+
+/* In both calls a pointer names as many bytes as the length behind it says, and is not null even where that is 0;
+ * a length is at most PTRDIFF_MAX. */
+
+/* The number of lines: a log is split at line feeds, and what follows the last one is a line if it has a byte. */
+size_t lamptwin_lines(const uint8_t *log, size_t log_length);
+
+/* Writes one answer line for each line of the log to the start of answers, and gives how many bytes that took. The bytes behind
+ * them stay as they were. If answers has fewer than LAMPTWIN_ANSWER_ROOM bytes for each line of the log, it gives 0 and writes
+ * nothing. The two areas must not overlap. */
+size_t lamptwin_run(const uint8_t *log, size_t log_length, uint8_t *answers, size_t answers_length);
+
+#ifdef __cplusplus
+}
+#endif
+
+#endif
