@@ -1,6 +1,6 @@
--- The first n elements of a list: a function at each, a test of each, a bit for each, a number for each.
-use Prim.Native.Nat.{ℕ, _+_}
-use mathlib.Core.Bool.{Bool, true, _&&_, cond}
+-- The first n elements of a list: a function at each, a test of each, a byte of each.
+use Prim.Native.Nat.{ℕ}
+use mathlib.Core.Bool.{Bool, true, _&&_}
 use mathlib.Core.List.{List, [], _∷_, _++_, map}
 use lib.Bits.{bitAnd}
 use lib.ListN.{take, drop}
@@ -16,14 +16,6 @@ all p (x ∷ l) = p x && all p l
 -- whether p holds of each of the first n elements
 unfoldable pub allFirst : {A : Type 0} → ℕ → (A → Bool) → List A → Bool
 allFirst n p l = all p (take n l)
-
-abbrev pub mask : {A : Type 0} → ℕ → (A → Bool) → List A → ℕ
-mask weight p [] = 0
-mask weight p (x ∷ l) = cond (p x) weight 0 + mask (weight + weight) p l
-
--- the set of the positions below n at which p holds, as a number: bit i for position i
-unfoldable pub maskFirst : {A : Type 0} → ℕ → (A → Bool) → List A → ℕ
-maskFirst n p l = mask 1 p (take n l)
 
 abbrev pub andOf : {A : Type 0} → (A → ℕ) → List A → ℕ → ℕ
 andOf f [] byte = byte

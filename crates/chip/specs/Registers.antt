@@ -58,10 +58,6 @@ blinkPwm0 = 2
 abbrev pub ls0 : ℕ
 ls0 = 5
 
--- the chip's last register
-abbrev pub lastRegister : Chip → ℕ
-lastRegister chip = cond (isDriver chip) (allcalladr (outputsOf chip)) 6
-
 -- the register that a control byte points at
 unfoldable pub pointed : Chip → ℕ → ℕ
 pointed chip control = cond (isDriver chip) (control % 32) (control % 8)

@@ -1,6 +1,7 @@
 pub mod Fields
 pub mod Reset
 pub mod Registers
+pub mod Bits
 pub mod Output
 pub mod Wait
 pub mod Blink

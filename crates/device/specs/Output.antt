@@ -1,6 +1,7 @@
 -- What an output follows, whether it is lit, for how many ticks, and the level of its pin (01, "When a lamp is lit").
-use Prim.Native.Nat.{ℕ, zero, suc, _+_, _/_, _%_, _^_}
+use Prim.Native.Nat.{ℕ, _+_, _/_, _%_, _^_}
 use mathlib.Core.Bool.{Bool, not, _&&_, cond}
+use mathlib.Core.List.{List, [], _∷_}
 use lib.Dec.{eqb}
 use Rattle.lamp.specs.Window.{countedTicks}
 use Rattle.lamp.specs.Driver.{driverMode, driverLit}
@@ -12,6 +13,7 @@ use Rattle.chip.specs.Kinds.{isDriver, outputsOf}
 use Rattle.chip.specs.Registers.{pwm0, grppwm, grpfreq, ledout0, psc0, blinkPwm0, ls0}
 use Rattle.chip.specs.declared.Chip.{Chip}
 use Rattle.chip.specs.declared.Chip.the-variants.{Pca9635, Pca9634, Pca9531, Pca9551}
+use Rattle.device.specs.Bits.{maskFirst}
 use Rattle.device.specs.Registers.{bit, held, inEffect, isAwake, isBlinking, isInverted, isTotemPole, outne}
 use Rattle.device.specs.declared.Device.{Device}
 
@@ -91,13 +93,12 @@ pinOf d out = cond (isDriver (d .chip)) (driverPin d (litNow d out)) (cond (litN
 
 -- ---- INPUT of a blinker: 0 where the output is lit, else the outside level
 
--- bit i for each i below n at which the test passes
-unfoldable pub bits : ℕ → (ℕ → Bool) → ℕ
-bits zero p = 0
-bits (suc n) p = bits n p + cond (p n) (2 ^ n) 0
-
 abbrev pub inputBit : Device → ℕ → Bool
 inputBit d i = not (litNow d i) && bit i (d .levels)
 
+-- the outputs of a blinker
+abbrev pub blinkerOutputs : List ℕ
+blinkerOutputs = 0 ∷ 1 ∷ 2 ∷ 3 ∷ 4 ∷ 5 ∷ 6 ∷ 7 ∷ []
+
 unfoldable pub inputByte : Device → ℕ
-inputByte d = bits 8 (inputBit d)
+inputByte d = maskFirst 8 (inputBit d) blinkerOutputs

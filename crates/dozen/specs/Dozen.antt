@@ -7,14 +7,15 @@ use lib.Dec.{eqb}
 use Rattle.blink.specs.Start.{euclid, gcdOf, lcmOf, commonStart}
 use Rattle.bus.specs.Bus.{emptyBus, busOk}
 use Rattle.bus.specs.Events.{stepReply, stepRefusals, stepDone, numberedReply}
-use Rattle.bus.specs.First.{mapFirst, allFirst, maskFirst, andFirst}
+use Rattle.device.specs.Bits.{maskFirst}
+use Rattle.bus.specs.First.{mapFirst, allFirst, andFirst}
 use Rattle.bus.specs.Refusals.{codeOf}
 use Rattle.bus.specs.Replies.{answer, signalReply, putReply, getReply, addReply, waitReply, oeReply, extReply, resetReply, litReply, pinReply, blinkReply}
 use Rattle.chip.specs.Addresses.{addressAllowed}
 use Rattle.chip.specs.Control.{controlLegal, controlMoved}
 use Rattle.chip.specs.Registers.{pointed, isBuffered}
 use Rattle.chip.specs.Values.{resetRegisters, storedByte, readByte}
-use Rattle.device.specs.Output.{driverOutput, blinkerOutput, lampLit, litOf, pinOf, bits, inputByte}
+use Rattle.device.specs.Output.{driverOutput, blinkerOutput, lampLit, litOf, pinOf, inputByte}
 use Rattle.device.specs.Registers.{inEffect, isAwake}
 use Rattle.device.specs.Reset.{resetOf}
 use Rattle.device.specs.Wait.{overruns, advanced, waitedOf}
@@ -111,5 +112,5 @@ allPass [] = true
 allPass (row ∷ l) = passes emptyBus row && allPass l
 
 pub dozen : (allPass table && boundsReached) ≡ true
-unfolding allPass table passes euclid gcdOf lcmOf commonStart busOk stepReply stepRefusals stepDone numberedReply mapFirst allFirst maskFirst andFirst codeOf answer signalReply putReply getReply addReply waitReply oeReply extReply resetReply litReply pinReply blinkReply addressAllowed controlLegal controlMoved pointed isBuffered resetRegisters storedByte readByte driverOutput blinkerOutput lampLit litOf pinOf bits inputByte inEffect isAwake resetOf overruns advanced waitedOf recordOk wellFormed litBelow litFrom blinkerLit individual grouped driverLit litTicks countedTicks heardBy acksTo registerByte pointedByte talkOf movedOn gottenFrom ownAddress answersShared answers stageAfter phaseAfterSignal deviceAfter tabulate committed effectOfStop stoppedOf pointedAt newByte effectiveAfter wakes countAfter storedIn takenBy acksData
+unfolding allPass table passes euclid gcdOf lcmOf commonStart busOk stepReply stepRefusals stepDone numberedReply mapFirst allFirst maskFirst andFirst codeOf answer signalReply putReply getReply addReply waitReply oeReply extReply resetReply litReply pinReply blinkReply addressAllowed controlLegal controlMoved pointed isBuffered resetRegisters storedByte readByte driverOutput blinkerOutput lampLit litOf pinOf inputByte inEffect isAwake resetOf overruns advanced waitedOf recordOk wellFormed litBelow litFrom blinkerLit individual grouped driverLit litTicks countedTicks heardBy acksTo registerByte pointedByte talkOf movedOn gottenFrom ownAddress answersShared answers stageAfter phaseAfterSignal deviceAfter tabulate committed effectOfStop stoppedOf pointedAt newByte effectiveAfter wakes countAfter storedIn takenBy acksData
 dozen = refl

@@ -20,7 +20,8 @@ use Rattle.protocol.specs.Put.{acksTo}
 use Rattle.protocol.specs.Read.{talkOf}
 use Rattle.protocol.specs.Signal.{inTurn, phaseAfterSignal, deviceAfter}
 use Rattle.protocol.specs.declared.Signal.the-variants as S
-use Rattle.bus.specs.First.{mapFirst, allFirst, maskFirst, andFirst, all, mask, andOf}
+use Rattle.device.specs.Bits.{mask, maskFirst}
+use Rattle.bus.specs.First.{mapFirst, allFirst, andFirst, all, andOf}
 use Rattle.bus.specs.Bus.{busOk, hasDevice, deviceAt, emptyBus}
 use Rattle.bus.specs.Refusals.{Refusal, refuse, codeOf}
 use Rattle.bus.specs.Replies.{answer, refusedWith, putValue, waitRefusals, waitDone, waitReply}

@@ -1,16 +1,15 @@
 -- The first n elements of a list, for any element, function and test: what a loop over them starts with, what a turn adds, what it ends with; and what keeps a test of all.
-use Prim.Native.Nat.{ℕ, zero, suc, _+_, _*_, _^_, _≤_, _<_}
+use Prim.Native.Nat.{ℕ, zero, suc, _+_, _≤_, _<_}
 use mathlib.Core.Path.{_≡_, refl, sym, ap}
-use mathlib.Core.Bool.{Bool, true, false, _&&_, cond}
+use mathlib.Core.Bool.{Bool, true, false, _&&_}
 use mathlib.Core.List.{List, [], _∷_}
 use native.Mathlib.Numerals.{add-one}
-use native.Mathlib.Nat.{le-of-suc-le-suc, mul-one, add-mul, pow-suc, mul-assoc, one-mul}
+use native.Mathlib.Nat.{le-of-suc-le-suc}
 use native.Mathlib.Omega.{arith}
 use lib.Bits.{bitAnd}
 use lib.ListN.{length, take, getD, set}
-use lib.Pow.{pow-mono}
 use Rattle.chip.specs.laws.Logic.{and-left, and-right}
-use Rattle.bus.specs.First.{mapFirst, allFirst, maskFirst, andFirst, all, mask, andOf}
+use Rattle.bus.specs.First.{mapFirst, allFirst, andFirst, all, andOf}
 
 -- an element that is there does not depend on what would stand for a missing one
 pub getD-there : {A : Type 0} (y z : A) (l : List A) (i : ℕ) → i < length l → getD l i y ≡ getD l i z
@@ -106,51 +105,6 @@ all-mapped p q f h zero l e = refl
 all-mapped p q f h (suc n) [] e = refl
 all-mapped p q f h (suc n) (x ∷ l) e =
     rw (h x (and-left (p x) (all p (take n l)) e)) (all-mapped p q f h n l (and-right (p x) (all p (take n l)) e))
-
--- ---- a bit for each
-
-twice : (w i : ℕ) → (w + w) * 2 ^ i ≡ w * 2 ^ suc i
-twice w i = simp (add-mul, pow-suc, ← mul-assoc) (omega arith)
-
-cond-le : (b : Bool) (w : ℕ) → cond b w 0 ≤ w
-cond-le true w = omega arith
-cond-le false w = omega arith
-
-pub weight-more : (i w : ℕ) → w ≡ 2 ^ i → w + w ≡ 2 ^ (i + 1)
-weight-more i w e = rw (add-one, pow-suc, e) (omega arith)
-
-module _ {A : Type 0} (p : A → Bool) where
-  mask-suc : (z : A) (w : ℕ) (l : List A) (i : ℕ) → i < length l → mask w p (take (suc i) l) ≡ mask w p (take i l) + cond (p (getD l i z)) (w * 2 ^ i) 0
-  mask-suc z w [] i h = absurd (omega arith)
-  mask-suc z w (x ∷ l) zero h = simp mul-one (omega arith)
-  mask-suc z w (x ∷ l) (suc i) h = rw (mask-suc z (w + w) l i (le-of-suc-le-suc h), twice w i) (omega arith)
-
-  mask-bound : (w : ℕ) (l : List A) (i : ℕ) → mask w p (take i l) + w ≤ w * 2 ^ i
-  mask-bound w l zero = simp mul-one (omega arith)
-  mask-bound w [] (suc i) = omega (arith, mask-bound w [] i, twice w i, add-mul w w (2 ^ i))
-  mask-bound w (x ∷ l) (suc i) = omega (arith, mask-bound (w + w) l i, twice w i, cond-le (p x) w)
-
-  pub mask-none : (l : List A) → 0 ≡ maskFirst 0 p l
-  unfolding maskFirst
-  mask-none l = refl
-
-  mask-small : (l : List A) (i : ℕ) → maskFirst i p l < 2 ^ i
-  unfolding maskFirst
-  mask-small l i = omega (arith, mask-bound 1 l i, one-mul (2 ^ i))
-
-  -- the set of eight positions and its weight fit a byte
-  pub mask-room : (l : List A) (i m w : ℕ) → i < 8 → w ≡ 2 ^ i → m ≡ maskFirst i p l → (m < w) × (w ≤ 128)
-  mask-room l i m w h e q =
-      let k : 2 ^ i ≤ 2 ^ 7 = pow-mono (le-of-suc-le-suc h) in
-      (omega (arith, mask-small l i), omega arith)
-
-  -- a turn adds bit i where p holds of the element at i
-  pub mask-more : (z : A) (l : List A) (i m w r : ℕ) (on : Bool) → i < length l → w ≡ 2 ^ i → m ≡ maskFirst i p l → on ≡ p (getD l i z) → r ≡ cond on w 0 → m + r ≡ maskFirst (i + 1) p l
-  unfolding maskFirst
-  mask-more z l i m w r on h e q u v = rw (add-one, mask-suc z 1 l i h, one-mul, v, u, q, e)
-
-  pub mask-done : (l : List A) (m i n : ℕ) → i ≤ n → n ≤ i → m ≡ maskFirst i p l → m ≡ maskFirst n p l
-  mask-done l m i n h k e = let q : n ≡ i = omega arith in rw q e
 
 -- ---- a byte of each
 

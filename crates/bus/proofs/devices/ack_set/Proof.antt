@@ -3,8 +3,8 @@ use Prim.Native.Nat.{_≤_, _-_, _^_}
 use mathlib.Core.Path.{_≡_}
 use native.Mathlib.Omega.{arith}
 use Rattle.protocol.specs.Put.{acksTo}
-use Rattle.bus.specs.First.{maskFirst}
-use Rattle.bus.specs.laws.First.{mask-none, mask-more, mask-done, mask-room, weight-more}
+use Rattle.device.specs.Bits.{maskFirst}
+use Rattle.device.specs.laws.Bits.{mask-none, mask-more, mask-done, mask-room, weight-more, weight-most}
 use Rattle.bus.proofs.devices.ack_set.Statement.{statement}
 use Rattle.bus.proofs.devices.ack_set.Tie as tie
 
@@ -19,6 +19,7 @@ loop-holds c = (search needs, search needs, mask-none _ _)
 
 add-set : tie.Need-add-set Inv-loop μ-loop
 add-set c =
+    let most = weight-most (c .before .acks .result) (c .weight-of .result) (c .before .before .before .before .loop .weight) (c .weight-of .ensures) in
     let room = mask-room _ _ _ _ _ (search needs) (c .before .before .before .before .loop .inv .1) (c .before .before .before .before .loop .inv .2) in
     omega arith
 
@@ -30,7 +31,7 @@ add-weight c =
 loop-again : tie.Need-loop-again Inv-loop μ-loop
 loop-again c =
     let inv = c .before .before .before .before .loop .inv in
-    (search needs, weight-more _ _ (inv .1), mask-more _ _ _ _ _ _ _ _ (search needs) (inv .1) (inv .2) (c .before .acks .ensures) (c .weight-of .ensures .0))
+    (search needs, weight-more _ _ (inv .1), mask-more _ _ _ _ _ _ _ _ (search needs) (inv .1) (inv .2) (c .before .acks .ensures) (c .weight-of .ensures))
 
 returns : tie.Need-returns Inv-loop μ-loop
 returns c = mask-done _ _ _ _ _ (c .before .loop .inv .0) (c .loop-test .left) (c .before .loop .inv .2)

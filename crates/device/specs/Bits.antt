@@ -1,0 +1,13 @@
+-- A set as a number: bit i for what stands at position i.
+use Prim.Native.Nat.{ℕ, _+_}
+use mathlib.Core.Bool.{Bool, cond}
+use mathlib.Core.List.{List, [], _∷_}
+use lib.ListN.{take}
+
+abbrev pub mask : {A : Type 0} → ℕ → (A → Bool) → List A → ℕ
+mask weight p [] = 0
+mask weight p (x ∷ l) = cond (p x) weight 0 + mask (weight + weight) p l
+
+-- the set of the positions below n at which p holds
+unfoldable pub maskFirst : {A : Type 0} → ℕ → (A → Bool) → List A → ℕ
+maskFirst n p l = mask 1 p (take n l)

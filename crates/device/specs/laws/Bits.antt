@@ -1,0 +1,63 @@
+-- A set of positions as a number: what a loop over them starts with, what a turn adds, what it ends with.
+use Prim.Native.Nat.{ℕ, zero, suc, _+_, _*_, _^_, _≤_, _<_}
+use mathlib.Core.Path.{_≡_, refl}
+use mathlib.Core.Bool.{Bool, true, false, cond}
+use mathlib.Core.List.{List, [], _∷_}
+use native.Mathlib.Numerals.{add-one}
+use native.Mathlib.Nat.{le-of-suc-le-suc, mul-one, add-mul, pow-suc, mul-assoc, one-mul}
+use native.Mathlib.Omega.{arith}
+use lib.ListN.{length, take, getD}
+use lib.Pow.{pow-mono}
+use Rattle.device.specs.Bits.{mask, maskFirst}
+
+twice : (w i : ℕ) → (w + w) * 2 ^ i ≡ w * 2 ^ suc i
+twice w i = simp (add-mul, pow-suc, ← mul-assoc) (omega arith)
+
+cond-le : (b : Bool) (w : ℕ) → cond b w 0 ≤ w
+cond-le true w = omega arith
+cond-le false w = omega arith
+
+-- a bit weighs at most its weight
+pub weight-most : (b : Bool) (r w : ℕ) → r ≡ cond b w 0 → r ≤ w
+weight-most b r w e = rw e (cond-le b w)
+
+-- the weight doubles from one position to the next
+pub weight-more : (i w : ℕ) → w ≡ 2 ^ i → w + w ≡ 2 ^ (i + 1)
+weight-more i w e = rw (add-one, pow-suc, e) (omega arith)
+
+module _ {A : Type 0} (p : A → Bool) where
+  mask-suc : (z : A) (w : ℕ) (l : List A) (i : ℕ) → i < length l → mask w p (take (suc i) l) ≡ mask w p (take i l) + cond (p (getD l i z)) (w * 2 ^ i) 0
+  mask-suc z w [] i h = absurd (omega arith)
+  mask-suc z w (x ∷ l) zero h = simp mul-one (omega arith)
+  mask-suc z w (x ∷ l) (suc i) h = rw (mask-suc z (w + w) l i (le-of-suc-le-suc h), twice w i) (omega arith)
+
+  mask-bound : (w : ℕ) (l : List A) (i : ℕ) → mask w p (take i l) + w ≤ w * 2 ^ i
+  mask-bound w l zero = simp mul-one (omega arith)
+  mask-bound w [] (suc i) = omega (arith, mask-bound w [] i, twice w i, add-mul w w (2 ^ i))
+  mask-bound w (x ∷ l) (suc i) = omega (arith, mask-bound (w + w) l i, twice w i, cond-le (p x) w)
+
+  pub mask-none : (l : List A) → 0 ≡ maskFirst 0 p l
+  unfolding maskFirst
+  mask-none l = refl
+
+  mask-small : (l : List A) (i : ℕ) → maskFirst i p l < 2 ^ i
+  unfolding maskFirst
+  mask-small l i = omega (arith, mask-bound 1 l i, one-mul (2 ^ i))
+
+  -- below position 8 the set so far is less than the next weight, and that is at most 128
+  pub mask-room : (l : List A) (i m w : ℕ) → i < 8 → w ≡ 2 ^ i → m ≡ maskFirst i p l → (m < w) × (w ≤ 128)
+  mask-room l i m w h e q =
+      let k : 2 ^ i ≤ 2 ^ 7 = pow-mono (le-of-suc-le-suc h) in
+      (omega (arith, mask-small l i), omega arith)
+
+  -- the set of up to eight positions is a byte
+  pub mask-byte : (l : List A) (i m : ℕ) → i ≤ 8 → m ≡ maskFirst i p l → m < 256
+  mask-byte l i m h q = let k : 2 ^ i ≤ 2 ^ 8 = pow-mono h in omega (arith, mask-small l i)
+
+  -- a turn adds bit i where p holds of the element at i
+  pub mask-more : (z : A) (l : List A) (i m w r : ℕ) (on : Bool) → i < length l → w ≡ 2 ^ i → m ≡ maskFirst i p l → on ≡ p (getD l i z) → r ≡ cond on w 0 → m + r ≡ maskFirst (i + 1) p l
+  unfolding maskFirst
+  mask-more z l i m w r on h e q u v = rw (add-one, mask-suc z 1 l i h, one-mul, v, u, q, e)
+
+  pub mask-done : (l : List A) (m i n : ℕ) → i ≤ n → n ≤ i → m ≡ maskFirst i p l → m ≡ maskFirst n p l
+  mask-done l m i n h k e = let q : n ≡ i = omega arith in rw q e
