@@ -8,7 +8,7 @@ use native.Mathlib.Numerals.{add-one}
 use native.Mathlib.Nat.{le-of-suc-le-suc, le-refl}
 use native.Mathlib.Omega.{arith}
 use mathlib.Core.Bool.{Bool, true, false, _||_, cond, false≢true}
-use mathlib.Core.List.{List, [], _∷_, _++_}
+use mathlib.Core.List.{List, [], _∷_, _++_, append-nil}
 use lib.Dec.{ltb, eqb}
 use lib.ListN.{length, getD, set, take, drop, drop-of-length-le}
 use borrow.Author.Tests.{lt-ltb, le-ltb, ltb-false, ne-eqb}
@@ -58,13 +58,9 @@ take-all : {A : Type 0} (l : List A) → take (length l) l ≡ l
 take-all [] = refl
 take-all (x ∷ l) = ap (λ (t : List _). x ∷ t) (take-all l)
 
-append-none : {A : Type 0} (l : List A) → l ++ [] ≡ l
-append-none [] = refl
-append-none (x ∷ l) = ap (λ (t : List _). x ∷ t) (append-none l)
-
 -- a row whose every element is replaced
 over-all : {A : Type 0} (n : ℕ) (src dst : List A) → length dst ≤ n → over n src dst ≡ take n src
-over-all n src dst h = ap (λ (t : List _). take n src ++ t) (drop-of-length-le dst h) ∙ append-none (take n src)
+over-all n src dst h = ap (λ (t : List _). take n src ++ t) (drop-of-length-le dst h) ∙ append-nil (take n src)
 
 map-length : {A : Type 0} (f : A → A) (n : ℕ) (l : List A) → length (mapFirst n f l) ≡ length l
 unfolding mapFirst

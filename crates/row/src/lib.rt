@@ -252,8 +252,7 @@ pub struct Rowed {
     pub reply: RowReply,
 }
 
-// The same on the first n of nine records, for a caller that has them by value.
-pub fn event_of(devices: [Device; 9], n: usize, phase: Phase, event: Event) -> Rowed
+fn event_within(devices: [Device; 9], n: usize, phase: Phase, event: Event) -> Rowed
     requires { ⌜ n < 10 ⌝ }
     ensures { λ r. ⌜ r ≡ rowOf devices n phase event ⌝ }
 {
@@ -262,5 +261,16 @@ pub fn event_of(devices: [Device; 9], n: usize, phase: Phase, event: Event) -> R
     Rowed {
         devices: a,
         reply: r,
+    }
+}
+
+// The same on the first n of nine records, for a caller that has them by value; on all nine for a larger n.
+pub fn event_of(devices: [Device; 9], n: usize, phase: Phase, event: Event) -> Rowed
+    ensures { λ r. ⌜ r ≡ rowOf devices n phase event ⌝ }
+{
+    if n < 10 {
+        event_within(devices, n, phase, event)
+    } else {
+        event_within(devices, 9, phase, event)
     }
 }

@@ -6,7 +6,6 @@ use device::Device;
 use device::Phase;
 use row::RowReply;
 use row::Rowed;
-ghost use Prim.Native.Nat.{_<_};
 
 fn cell(n: u64, end: u8) {
     let last = [end];
@@ -53,9 +52,7 @@ fn idle(devices: [Device; 9]) -> Rowed {
     }
 }
 
-fn event(r: Rowed, n: usize, event: Event) -> Rowed
-    requires { ⌜ n < 10 ⌝ }
-{
+fn event(r: Rowed, n: usize, event: Event) -> Rowed {
     let devices = r.devices;
     let reply = r.reply;
     let phase = reply.phase;
@@ -101,6 +98,7 @@ fn main() {
     let r = event(r, 8, Event::Put(32));
     let r = event(r, 8, Event::Stop);
     let r = event(r, 9, Event::Start);
+    let r = event(r, 10, Event::Start);
     event(r, 2, Event::Reset { dev: 0 });
 
     // a device that listens with no message open, and an illegal control byte
