@@ -26,9 +26,9 @@ use Rattle.bus.specs.declared.Bus.{Bus}
 
 -- ---- lit's value is the tick-by-tick sum
 
-or-false : (a b : Bool) → (a || b) ≡ false → (a ≡ false) × (b ≡ false)
-or-false true b e = (e, absurd (true≢false e))
-or-false false b e = (refl, e)
+neither : (a b : Bool) → (a || b) ≡ false → (a ≡ false) × (b ≡ false)
+neither true b e = (e, absurd (true≢false e))
+neither false b e = (refl, e)
 
 -- a code of 0 comes with no condition held, and with the value of a done call
 lit-done : (b : Bus) (dev out w : ℕ) → litReply b dev out w .code ≡ 0 → NoneHolds (litRefusals b dev out w) × (litReply b dev out w .value ≡ litOf (deviceAt b dev) out w)
@@ -48,7 +48,7 @@ pub lit-sum : (b : Bus) (dev out w : ℕ) → litReply b dev out w .code ≡ 0 �
 unfolding litOf countedTicks
 lit-sum b dev out w c a =
     let done = lit-done b dev out w c in
-    let long = or-false (ltb countLimit w) (overruns (deviceAt b dev) w) (done .0 .1 .1 .0) in
+    let long = neither (ltb countLimit w) (overruns (deviceAt b dev) w) (done .0 .1 .1 .0) in
     done .1 ∙ rw (a, in-limit (deviceAt b dev) w a (long .1)) refl
 
 -- ---- what an output follows

@@ -7,6 +7,12 @@ use Rattle.chip.specs.declared.Chip.the-variants.{Pca9635, Pca9634, Pca9
 use Rattle.chip.specs.declared.Lookup.{Lookup}
 use Rattle.chip.specs.declared.Lookup.the-variants.{Known, Unknown}
 
+abbrev pub numberOf : Chip → ℕ
+numberOf Pca9635 = 9635
+numberOf Pca9634 = 9634
+numberOf Pca9531 = 9531
+numberOf Pca9551 = 9551
+
 -- the chip with this number
 abbrev pub chipNumbered : ℕ → Lookup
 chipNumbered n =

@@ -6,6 +6,7 @@ use Prim.Native.Nat.{ℕ, _/_, _%_, _<_}
 use native.Mathlib.Omega.{arith}
 use lib.Dec.{leb, eqb}
 use borrow.Author.Tests.{eqb-true, leb-true}
+use Rattle.chip.specs.Kinds.{numberOf, chipNumbered}
 use Rattle.chip.specs.Registers.{registerMap}
 use Rattle.chip.specs.Control.{option, controlLegal, controlMoved}
 use Rattle.chip.specs.Values.{resetControl}
@@ -13,12 +14,20 @@ use Rattle.chip.specs.laws.Logic.{and-left, and-right, or-cases}
 use Rattle.chip.specs.laws.Table.{allBelow, at, same, follows}
 use Rattle.chip.specs.declared.Chip.{Chip}
 use Rattle.chip.specs.declared.Chip.the-variants.{Pca9635, Pca9634, Pca9531, Pca9551}
+use Rattle.chip.specs.declared.Lookup.the-variants.{Known}
 
 -- 16 and 8 outputs give the two columns of 01's register map
 pub columns :
     (registerMap 16 ≡ record { grppwm = 18; grpfreq = 19; ledout0 = 20; subadr1 = 24; allcalladr = 27 })
     × (registerMap 8 ≡ record { grppwm = 10; grpfreq = 11; ledout0 = 12; subadr1 = 14; allcalladr = 17 })
 columns = (refl, refl)
+
+-- a chip is found by its number
+pub found-by-number : (chip : Chip) → chipNumbered (numberOf chip) ≡ Known chip
+found-by-number Pca9635 = refl
+found-by-number Pca9634 = refl
+found-by-number Pca9531 = refl
+found-by-number Pca9551 = refl
 
 abbrev within : ℕ → ℕ → ℕ → Bool
 within low high x = leb low x && leb x high

@@ -1,6 +1,6 @@
 // What is fixed by the kind of a chip: its number of outputs, register map, addresses, control bytes, pointer moves and reset values.
 ghost use mathlib.Core.Path.{_≡_};
-ghost use Rattle.chip.specs.Kinds.{chipNumbered, isDriver, outputsOf};
+ghost use Rattle.chip.specs.Kinds.{numberOf, chipNumbered, isDriver, outputsOf};
 ghost use Rattle.chip.specs.Registers.{registerMap, isBuffered};
 ghost use Rattle.chip.specs.Addresses.{addressAllowed};
 
@@ -27,6 +27,17 @@ pub struct RegisterMap {
     pub ledout0: u8,
     pub subadr1: u8,
     pub allcalladr: u8,
+}
+
+pub fn number_of(chip: Chip) -> u64
+    ensures { λ r. ⌜ r ≡ numberOf chip ⌝ }
+{
+    match chip {
+        Chip::Pca9635 => 9635,
+        Chip::Pca9634 => 9634,
+        Chip::Pca9531 => 9531,
+        Chip::Pca9551 => 9551,
+    }
 }
 
 pub fn chip_numbered(number: u64) -> Lookup

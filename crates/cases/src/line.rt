@@ -1,0 +1,65 @@
+// The parts of a printed line. A number and a byte have a space before them.
+use bus::Reply;
+ghost use Prim.Native.Nat.{_≤_};
+
+pub fn text(part: &[u8]) {
+    io::write_all(1, part);
+}
+
+pub fn number(n: u64) {
+    io::write_all(1, b" ");
+    io::print_decimal(1, n);
+}
+
+// In hexadecimal, as the data sheets have it.
+pub fn byte(b: u8) {
+    io::write_all(1, b" ");
+    io::print_hex(1, b as u64, 2);
+}
+
+// The first n bytes of a buffer.
+pub fn bytes(buffer: &[u8; 32], n: usize)
+    requires { ⌜ n ≤ 32 ⌝ }
+{
+    for i in 0..n {
+        byte(buffer[i]);
+    }
+}
+
+pub fn slice(part: &[u8]) {
+    for i in 0..part.len() {
+        byte(part[i]);
+    }
+}
+
+// For a label: a chip's number, a word and a number, a word and a byte.
+pub fn chip(number: u64) {
+    io::print_decimal(1, number);
+}
+
+pub fn named(word: &[u8], n: u64) {
+    io::write_all(1, word);
+    io::print_decimal(1, n);
+}
+
+pub fn named_byte(word: &[u8], b: u8) {
+    io::write_all(1, word);
+    io::print_hex(1, b as u64, 2);
+}
+
+pub fn end() {
+    io::write_all(1, b"\n");
+}
+
+pub fn value(reply: Reply) {
+    number(reply.value);
+}
+
+pub fn code(reply: Reply) {
+    number(reply.code);
+}
+
+pub fn answer(reply: Reply) {
+    named(b" code=", reply.code);
+    named(b" value=", reply.value);
+}
