@@ -20,6 +20,12 @@ fn worked_cases_are_answered() {
 }
 
 #[test]
+fn the_first_example_of_the_readme() {
+    let answers = run(b"ev=add chip=9635 addr=21\nev=start\n");
+    assert_eq!(answers, b"n=1 code=0 value=0\nn=2 code=0 value=0\n");
+}
+
+#[test]
 fn lines_are_counted() {
     assert_eq!(lines(b""), 0);
     assert_eq!(lines(b"\n"), 1);
