@@ -17,6 +17,10 @@ unfoldable pub codeOf : List Refusal → ℕ
 codeOf [] = 0
 codeOf (r ∷ l) = cond (r .holds) (r .number) (codeOf l)
 
+-- a code, or where it is 0 the number of one refusal more, if that holds
+abbrev pub orRefused : ℕ → Refusal → ℕ
+orRefused code r = cond (eqb code 0) (cond (r .holds) (r .number) 0) code
+
 -- whether the condition of the number k is in the list and holds
 abbrev pub holdsAt : List Refusal → ℕ → Bool
 holdsAt [] k = false

@@ -1,7 +1,7 @@
 -- What each call answers: its refusals, and the reply where none holds (01, "What can happen on the bus"; the table of refusals is in docs/DECISIONS.md).
 use Prim.Native.Nat.{ℕ}
 use mathlib.Core.Bool.{Bool, true, false, not, _||_, cond}
-use mathlib.Core.List.{List, [], _∷_}
+use mathlib.Core.List.{List, [], _∷_, _++_}
 use lib.Dec.{leb, ltb, eqb}
 use Rattle.lamp.specs.Window.{countLimit}
 use Rattle.chip.specs.Kinds.{chipNumbered, isDriver, outputsOf}
@@ -58,8 +58,7 @@ stopReply b = signalReply b S.Stop
 
 -- 7 a byte above 255
 abbrev pub putRefusals : Bus → ℕ → List Refusal
-putRefusals b byte =
-    refuse 4 (not (busOk b)) ∷ refuse 5 (not (inTurn (b .phase) (S.Put byte))) ∷ refuse 7 (ltb 255 byte) ∷ []
+putRefusals b byte = signalRefusals b (S.Put byte) ++ refuse 7 (ltb 255 byte) ∷ []
 
 -- the positions of the devices that acknowledge, as a set
 abbrev pub ackSet : Bus → ℕ → ℕ
@@ -77,8 +76,7 @@ putReply b byte = answer (putRefusals b byte) b (putDone b byte)
 
 -- 7 an ack above 1
 abbrev pub getRefusals : Bus → ℕ → List Refusal
-getRefusals b ack =
-    refuse 4 (not (busOk b)) ∷ refuse 5 (not (inTurn (b .phase) (S.Get (eqb ack 1)))) ∷ refuse 7 (ltb 1 ack) ∷ []
+getRefusals b ack = signalRefusals b (S.Get (eqb ack 1)) ++ refuse 7 (ltb 1 ack) ∷ []
 
 -- a get's value: the bitwise AND of all devices talking
 abbrev pub getDone : Bus → Bool → Reply
@@ -119,14 +117,13 @@ addReply b chip address = answer (addRefusals b chip address) b (addDone b chip 
 
 -- ---- events and questions for one device
 
--- 3 no device at that position
+-- 3 no device at that position; 4 a bus that is not well formed
 abbrev pub placeRefusals : Bus → ℕ → List Refusal
 placeRefusals b dev = refuse 3 (not (hasDevice b dev)) ∷ refuse 4 (not (busOk b)) ∷ []
 
 -- 6 an awake device's count would pass the limit
 abbrev pub waitRefusals : Bus → ℕ → ℕ → List Refusal
-waitRefusals b dev ticks =
-    refuse 3 (not (hasDevice b dev)) ∷ refuse 4 (not (busOk b)) ∷ refuse 6 (overruns (deviceAt b dev) ticks) ∷ []
+waitRefusals b dev ticks = placeRefusals b dev ++ refuse 6 (overruns (deviceAt b dev) ticks) ∷ []
 
 abbrev pub waitDone : Bus → ℕ → ℕ → Reply
 waitDone b dev ticks = doneWith 0 (withDevice b dev (waitedOf (deviceAt b dev) ticks))
@@ -136,8 +133,7 @@ waitReply b dev ticks = answer (waitRefusals b dev ticks) b (waitDone b dev tick
 
 -- 7 a level above the largest; 10 the wrong sort of device
 abbrev pub levelRefusals : Bus → ℕ → ℕ → ℕ → Bool → List Refusal
-levelRefusals b dev most level wrong =
-    refuse 3 (not (hasDevice b dev)) ∷ refuse 4 (not (busOk b)) ∷ refuse 7 (ltb most level) ∷ refuse 10 wrong ∷ []
+levelRefusals b dev most level wrong = placeRefusals b dev ++ refuse 7 (ltb most level) ∷ refuse 10 wrong ∷ []
 
 abbrev pub oeRefusals : Bus → ℕ → ℕ → List Refusal
 oeRefusals b dev level = levelRefusals b dev 1 level (not (isDriver (deviceAt b dev .chip)))
@@ -172,12 +168,7 @@ abbrev pub isTooLong : Bus → ℕ → ℕ → Bool
 isTooLong b dev ticks = ltb countLimit ticks || overruns (deviceAt b dev) ticks
 
 abbrev pub litRefusals : Bus → ℕ → ℕ → ℕ → List Refusal
-litRefusals b dev out ticks =
-    refuse 3 (not (hasDevice b dev))
-    ∷ refuse 4 (not (busOk b))
-    ∷ refuse 6 (isTooLong b dev ticks)
-    ∷ refuse 9 (isMissing b dev out)
-    ∷ []
+litRefusals b dev out ticks = placeRefusals b dev ++ refuse 6 (isTooLong b dev ticks) ∷ refuse 9 (isMissing b dev out) ∷ []
 
 abbrev pub litDone : Bus → ℕ → ℕ → ℕ → Reply
 litDone b dev out ticks = doneWith (litOf (deviceAt b dev) out ticks) b
@@ -186,8 +177,7 @@ unfoldable pub litReply : Bus → ℕ → ℕ → ℕ → Reply
 litReply b dev out ticks = answer (litRefusals b dev out ticks) b (litDone b dev out ticks)
 
 abbrev pub pinRefusals : Bus → ℕ → ℕ → List Refusal
-pinRefusals b dev out =
-    refuse 3 (not (hasDevice b dev)) ∷ refuse 4 (not (busOk b)) ∷ refuse 9 (isMissing b dev out) ∷ []
+pinRefusals b dev out = placeRefusals b dev ++ refuse 9 (isMissing b dev out) ∷ []
 
 abbrev pub pinDone : Bus → ℕ → ℕ → Reply
 pinDone b dev out = doneWith (pinOf (deviceAt b dev) out) b
@@ -197,8 +187,7 @@ pinReply b dev out = answer (pinRefusals b dev out) b (pinDone b dev out)
 
 -- the blink-start question: 10 for a driver
 abbrev pub blinkRefusals : Bus → ℕ → List Refusal
-blinkRefusals b dev =
-    refuse 3 (not (hasDevice b dev)) ∷ refuse 4 (not (busOk b)) ∷ refuse 10 (isDriver (deviceAt b dev .chip)) ∷ []
+blinkRefusals b dev = placeRefusals b dev ++ refuse 10 (isDriver (deviceAt b dev .chip)) ∷ []
 
 abbrev pub blinkDone : Bus → ℕ → Reply
 blinkDone b dev = doneWith (commonStartOf (deviceAt b dev)) b

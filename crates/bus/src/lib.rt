@@ -10,6 +10,7 @@ mod add;
 pub mod calls;
 mod devices;
 mod place;
+mod refusal;
 mod signals;
 
 pub use devices::device_at;

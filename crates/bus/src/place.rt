@@ -1,6 +1,7 @@
 // Events and questions for the device at one position.
 use crate::Bus;
 use crate::Reply;
+use crate::refusal::or_refused;
 ghost use mathlib.Core.Path.{_≡_};
 ghost use Rattle.chip.specs.Kinds.{isDriver};
 ghost use Rattle.bus.specs.Bus.{busOk, deviceAt};
@@ -23,19 +24,8 @@ fn wait_code(ok: bool, bus: Bus, dev: u64, ticks: u64) -> u64
     requires { ⌜ ok ≡ busOk bus ⌝ }
     ensures { λ r. ⌜ r ≡ codeOf (waitRefusals bus dev ticks) ⌝ }
 {
-    if crate::devices::has_device(bus, dev) {
-        if ok {
-            if device::wait::overruns(crate::devices::device_at(bus, dev), ticks) {
-                6
-            } else {
-                0
-            }
-        } else {
-            4
-        }
-    } else {
-        3
-    }
+    let holds = device::wait::overruns(crate::devices::device_at(bus, dev), ticks);
+    or_refused(place_code(ok, bus, dev), 6, holds)
 }
 
 pub fn wait(ok: bool, bus: Bus, dev: u64, ticks: u64) -> Reply
@@ -55,21 +45,8 @@ fn level_code(ok: bool, bus: Bus, dev: u64, most: u64, level: u64, wrong: bool) 
     requires { ⌜ ok ≡ busOk bus ⌝ }
     ensures { λ r. ⌜ r ≡ codeOf (levelRefusals bus dev most level wrong) ⌝ }
 {
-    if crate::devices::has_device(bus, dev) {
-        if ok {
-            if most < level {
-                7
-            } else if wrong {
-                10
-            } else {
-                0
-            }
-        } else {
-            4
-        }
-    } else {
-        3
-    }
+    let code = or_refused(place_code(ok, bus, dev), 7, most < level);
+    or_refused(code, 10, wrong)
 }
 
 fn is_driver(bus: Bus, dev: u64) -> bool
@@ -155,21 +132,8 @@ fn lit_code(ok: bool, bus: Bus, dev: u64, out: u64, ticks: u64) -> u64
     requires { ⌜ ok ≡ busOk bus ⌝ }
     ensures { λ r. ⌜ r ≡ codeOf (litRefusals bus dev out ticks) ⌝ }
 {
-    if crate::devices::has_device(bus, dev) {
-        if ok {
-            if is_too_long(bus, dev, ticks) {
-                6
-            } else if is_missing(bus, dev, out) {
-                9
-            } else {
-                0
-            }
-        } else {
-            4
-        }
-    } else {
-        3
-    }
+    let code = or_refused(place_code(ok, bus, dev), 6, is_too_long(bus, dev, ticks));
+    or_refused(code, 9, is_missing(bus, dev, out))
 }
 
 pub fn lit(ok: bool, bus: Bus, dev: u64, out: u64, ticks: u64) -> Reply
@@ -189,15 +153,7 @@ fn pin_code(ok: bool, bus: Bus, dev: u64, out: u64) -> u64
     requires { ⌜ ok ≡ busOk bus ⌝ }
     ensures { λ r. ⌜ r ≡ codeOf (pinRefusals bus dev out) ⌝ }
 {
-    if crate::devices::has_device(bus, dev) {
-        if ok {
-            if is_missing(bus, dev, out) { 9 } else { 0 }
-        } else {
-            4
-        }
-    } else {
-        3
-    }
+    or_refused(place_code(ok, bus, dev), 9, is_missing(bus, dev, out))
 }
 
 pub fn pin(ok: bool, bus: Bus, dev: u64, out: u64) -> Reply
@@ -217,15 +173,7 @@ fn blink_code(ok: bool, bus: Bus, dev: u64) -> u64
     requires { ⌜ ok ≡ busOk bus ⌝ }
     ensures { λ r. ⌜ r ≡ codeOf (blinkRefusals bus dev) ⌝ }
 {
-    if crate::devices::has_device(bus, dev) {
-        if ok {
-            if is_driver(bus, dev) { 10 } else { 0 }
-        } else {
-            4
-        }
-    } else {
-        3
-    }
+    or_refused(place_code(ok, bus, dev), 10, is_driver(bus, dev))
 }
 
 // The blink-start question: the steps after which both blinks of a blinker begin together again.

@@ -1,6 +1,7 @@
 // START, STOP, a put and a get.
 use crate::Bus;
 use crate::Reply;
+use crate::refusal::or_refused;
 use protocol::Signal;
 ghost use mathlib.Core.Path.{_≡_};
 ghost use Prim.Native.Nat.{_≤_};
@@ -55,16 +56,7 @@ fn put_code(ok: bool, bus: Bus, byte: u64) -> u64
     requires { ⌜ ok ≡ busOk bus ⌝ }
     ensures { λ r. ⌜ r ≡ codeOf (putRefusals bus byte) ⌝ }
 {
-    let phase = bus.phase;
-    if ok {
-        if protocol::after::in_turn(phase, Signal::Put(0)) {
-            if 255 < byte { 7 } else { 0 }
-        } else {
-            5
-        }
-    } else {
-        4
-    }
+    or_refused(signal_code(ok, bus, Signal::Put(0)), 7, 255 < byte)
 }
 
 // 1 if any device acknowledges.
@@ -103,16 +95,7 @@ fn get_code(ok: bool, bus: Bus, ack: u64) -> u64
     requires { ⌜ ok ≡ busOk bus ⌝ }
     ensures { λ r. ⌜ r ≡ codeOf (getRefusals bus ack) ⌝ }
 {
-    let phase = bus.phase;
-    if ok {
-        if protocol::after::in_turn(phase, Signal::Get(true)) {
-            if 1 < ack { 7 } else { 0 }
-        } else {
-            5
-        }
-    } else {
-        4
-    }
+    or_refused(signal_code(ok, bus, Signal::Get(true)), 7, 1 < ack)
 }
 
 fn get_done(bus: Bus, ack: bool) -> Reply

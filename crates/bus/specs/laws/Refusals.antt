@@ -2,14 +2,14 @@
 use mathlib.Core.Path.{_≡_, refl, sym, _∙_}
 use mathlib.Core.Logic.{⊎-elim}
 use mathlib.Core.Bool.{Bool, true, false, cond, and-false, false≢true}
-use mathlib.Core.List.{List, [], _∷_}
+use mathlib.Core.List.{List, [], _∷_, _++_}
 use Prim.Native.Nat.{ℕ, _≤_, _<_}
 use native.Mathlib.Nat.{eq-or-lt-of-le}
 use native.Mathlib.Omega.{arith}
 use lib.Dec.{ltb, eqb}
 use borrow.Author.Tests.{ltb-true, ltb-false, eq-eqb, ne-eqb}
 use Rattle.chip.specs.laws.Logic.{and-left, and-right}
-use Rattle.bus.specs.Refusals.{Refusal, codeOf, holdsAt, risesFrom}
+use Rattle.bus.specs.Refusals.{Refusal, refuse, codeOf, orRefused, holdsAt, risesFrom}
 
 abbrev pub NoneHolds : List Refusal → Type 0
 NoneHolds [] = Unit {0}
@@ -28,6 +28,24 @@ accepted low (r ∷ l) h e =
     go : (b : Bool) → r .holds ≡ b → cond b (r .number) (codeOf l) ≡ 0 → (codeOf l ≡ 0 → NoneHolds l) → (r .holds ≡ false) × NoneHolds l
     go true q c rest = absurd (omega (arith, ltb-true low (r .number) (and-left (ltb low (r .number)) (risesFrom (r .number) l) h)))
     go false q c rest = (q, rest c)
+
+-- one refusal more, at the end of a list
+pub code-more : (low : ℕ) (l : List Refusal) (r : Refusal) → risesFrom low l ≡ true → codeOf (l ++ r ∷ []) ≡ orRefused (codeOf l) r
+unfolding codeOf
+code-more low [] r h = refl
+code-more low (x ∷ l) r h =
+    go (x .holds) (code-more (x .number) l r (and-right (ltb low (x .number)) (risesFrom (x .number) l) h))
+  where
+    positive : x .number ≡ 0 → ⊥
+    positive e = omega (arith, ltb-true low (x .number) (and-left (ltb low (x .number)) (risesFrom (x .number) l) h))
+
+    go : (b : Bool) → codeOf (l ++ r ∷ []) ≡ orRefused (codeOf l) r → cond b (x .number) (codeOf (l ++ r ∷ [])) ≡ orRefused (cond b (x .number) (codeOf l)) r
+    go true next = rw (ne-eqb (x .number) 0 positive) refl
+    go false next = next
+
+-- the code of a list with one refusal more, from the code of the list and whether that holds
+pub refused-more : (l : List Refusal) (number : ℕ) (b : Bool) (code k : ℕ) (holds : Bool) → risesFrom 0 l ≡ true → code ≡ codeOf l → holds ≡ b → k ≡ orRefused code (refuse number holds) → k ≡ codeOf (l ++ refuse number b ∷ [])
+refused-more l number b code k holds h e q f = rw (code-more 0 l (refuse number b) h, ← e, ← q) f
 
 -- a number up to `low` is not in a list that rises from it
 below-none : (low : ℕ) (l : List Refusal) → risesFrom low l ≡ true → (j : ℕ) → j ≤ low → holdsAt l j ≡ false

@@ -1,30 +1,21 @@
-use mathlib.Core.Path.{sym, _∙_}
-use borrow.Author.Tests.{le-ltb, lt-ltb}
-use Rattle.bus.specs.Refusals.{codeOf}
+use lib.Dec.{ltb}
+use Rattle.bus.specs.laws.Refusals.{refused-more}
+use Rattle.bus.specs.Replies.{placeRefusals}
+use mathlib.Core.Path.{refl}
+use mathlib.Core.List.{[], _∷_, _++_}
+use Rattle.bus.specs.Refusals.{refuse}
 use borrow.Author.Needs.{needs}
 use Rattle.bus.proofs.place.level_code.Statement.{statement}
 use Rattle.bus.proofs.place.level_code.Tie as tie
 
 returns : tie.Need-returns
-unfolding codeOf
-returns c = simp (lt-ltb _ _ (c .if3 .taken), sym (c .before .before .before .before .pre) ∙ c .before .if2 .taken, sym (c .before .before .before .has-device .ensures) ∙ c .before .before .if1 .taken)
-
-returns-2 : tie.Need-returns-2
-unfolding codeOf
-returns-2 c = simp (c .if4 .taken, le-ltb _ _ (c .before .if3 .left), sym (c .before .before .before .before .before .pre) ∙ c .before .before .if2 .taken, sym (c .before .before .before .before .has-device .ensures) ∙ c .before .before .before .if1 .taken)
-
-returns-3 : tie.Need-returns-3
-unfolding codeOf
-returns-3 c = simp (c .if4 .left, le-ltb _ _ (c .before .if3 .left), sym (c .before .before .before .before .before .pre) ∙ c .before .before .if2 .taken, sym (c .before .before .before .before .has-device .ensures) ∙ c .before .before .before .if1 .taken)
-
-returns-4 : tie.Need-returns-4
-unfolding codeOf
-returns-4 c = simp (sym (c .before .before .before .pre) ∙ c .if2 .left, sym (c .before .before .has-device .ensures) ∙ c .before .if1 .taken)
-
-returns-5 : tie.Need-returns-5
-unfolding codeOf
-returns-5 c = simp (sym (c .before .has-device .ensures) ∙ c .if1 .left)
+returns c =
+    let a = c .before .before .before in
+    let l = placeRefusals (a .args .bus) (a .args .dev) in
+    let large = ltb (a .args .most) (a .args .level) in
+    let code = refused-more l 7 large _ _ _ refl (c .before .before .place-code .ensures) refl (c .before .or-refused .ensures) in
+    refused-more (l ++ refuse 7 large ∷ []) 10 _ _ _ _ refl code refl (c .or-refused2 .ensures)
 
 pub level-code-spec : {M : Type 1} → statement M
 level-code-spec =
-    tie.close (tie.spec (λ c κs. search needs) returns returns-2 returns-3 returns-4 returns-5)
+    tie.close (tie.spec (λ c κs. search needs) (λ c κs. search needs) (λ c κs. search needs) returns)

@@ -1,28 +1,19 @@
-use mathlib.Core.Path.{sym, _∙_}
-use Rattle.bus.specs.Refusals.{codeOf}
+use Rattle.bus.specs.laws.Refusals.{refused-more}
+use Rattle.bus.specs.Replies.{placeRefusals, isTooLong}
+use mathlib.Core.Path.{refl}
+use mathlib.Core.List.{[], _∷_, _++_}
+use Rattle.bus.specs.Refusals.{refuse}
 use borrow.Author.Needs.{needs}
 use Rattle.bus.proofs.place.lit_code.Statement.{statement}
 use Rattle.bus.proofs.place.lit_code.Tie as tie
 
 returns : tie.Need-returns
-unfolding codeOf
-returns c = simp (sym (c .before .is-too-long .ensures) ∙ c .if3 .taken, sym (c .before .before .before .before .before .pre) ∙ c .before .before .if2 .taken, sym (c .before .before .before .before .has-device .ensures) ∙ c .before .before .before .if1 .taken)
-
-returns-2 : tie.Need-returns-2
-unfolding codeOf
-returns-2 c = simp (sym (c .before .is-missing .ensures) ∙ c .if4 .taken, sym (c .before .before .before .is-too-long .ensures) ∙ c .before .before .if3 .left, sym (c .before .before .before .before .before .before .before .pre) ∙ c .before .before .before .before .if2 .taken, sym (c .before .before .before .before .before .before .has-device .ensures) ∙ c .before .before .before .before .before .if1 .taken)
-
-returns-3 : tie.Need-returns-3
-unfolding codeOf
-returns-3 c = simp (sym (c .before .is-missing .ensures) ∙ c .if4 .left, sym (c .before .before .before .is-too-long .ensures) ∙ c .before .before .if3 .left, sym (c .before .before .before .before .before .before .before .pre) ∙ c .before .before .before .before .if2 .taken, sym (c .before .before .before .before .before .before .has-device .ensures) ∙ c .before .before .before .before .before .if1 .taken)
-
-returns-4 : tie.Need-returns-4
-unfolding codeOf
-returns-4 c = simp (sym (c .before .before .before .pre) ∙ c .if2 .left, sym (c .before .before .has-device .ensures) ∙ c .before .if1 .taken)
-
-returns-5 : tie.Need-returns-5
-unfolding codeOf
-returns-5 c = simp (sym (c .before .has-device .ensures) ∙ c .if1 .left)
+returns c =
+    let a = c .before .before .before .before .before in
+    let l = placeRefusals (a .args .bus) (a .args .dev) in
+    let long = isTooLong (a .args .bus) (a .args .dev) (a .args .ticks) in
+    let code = refused-more l 6 long _ _ _ refl (c .before .before .before .before .place-code .ensures) (c .before .before .before .is-too-long .ensures) (c .before .before .or-refused .ensures) in
+    refused-more (l ++ refuse 6 long ∷ []) 9 _ _ _ _ refl code (c .before .is-missing .ensures) (c .or-refused2 .ensures)
 
 pub lit-code-spec : {M : Type 1} → statement M
 lit-code-spec =
@@ -31,8 +22,6 @@ lit-code-spec =
     (λ c κs. search needs)
     (λ c κs. search needs)
     (λ c κs. search needs)
-    returns
-    returns-2
-    returns-3
-    returns-4
-    returns-5)
+    (λ c κs. search needs)
+    (λ c κs. search needs)
+    returns)
