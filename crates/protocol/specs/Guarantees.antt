@@ -1,9 +1,10 @@
 -- The failures of earlier versions cannot recur: a shared call address is heard; nothing of a message takes effect before its STOP while OCH is 0; and at the STOP all of it does.
 -- The third failure, lit time by rounding, is met by lit's answers being the tick-by-tick sum (crate `bus`).
 use mathlib.Core.Path.{_≡_, refl, _∙_}
-use mathlib.Core.Bool.{Bool, true, false, _&&_, _||_, cond, and-false, true≢false}
+use mathlib.Core.Bool.{Bool, true, false, _&&_, _||_, cond, and-false, or-true, true≢false}
+use mathlib.Core.Logic.{_⊎_, inl, inr, ⊎-elim}
 use mathlib.Core.List.{List, [], _∷_}
-use Prim.Native.Nat.{ℕ, _/_, _%_, _<_}
+use Prim.Native.Nat.{ℕ, _+_, _/_, _%_, _<_}
 use native.Mathlib.Omega.{arith}
 use lib.Dec.{eqb, ltb, leb}
 use borrow.Author.Tests.{eq-eqb, ne-eqb, ltb-true}
@@ -20,7 +21,7 @@ use Rattle.device.specs.declared.Phase.{Phase}
 use Rattle.device.specs.declared.Phase.the-variants as P
 use Rattle.device.specs.declared.Stage.{Stage}
 use Rattle.device.specs.declared.Stage.the-variants.{Unselected, Control, Data, Talking, ResetCall, ResetFirst, ResetBoth}
-use Rattle.protocol.specs.Selection.{ownAddress, answersShared, answers, stageAfter}
+use Rattle.protocol.specs.Selection.{ownAddress, sharedBy, answersShared, answers, stageAfter}
 use Rattle.protocol.specs.Write.{pointedAt, effectiveAfter, storedIn, takenAt, takenBy}
 use Rattle.protocol.specs.Put.{isSelected, heardBy, acksTo}
 use Rattle.protocol.specs.Read.{isTalking, movedOn, gottenFrom}
@@ -32,11 +33,30 @@ use Rattle.protocol.specs.declared.Signal.the-variants.{Start, Stop, Put
 
 -- ---- shared call addresses
 
--- a driver with ALLCALL set acknowledges the address in ALLCALLADR, whatever its own address is, awake or asleep, for reads and writes alike
-pub all-call-heard : (d : Device) (byte : ℕ) → isDriver (d .chip) ≡ true → bit 0 (held d mode1) ≡ true → held d (allcalladr (outputsOf (d .chip))) / 2 ≡ byte / 2 → (byte / 2 ≡ 3 → ⊥) → acksTo P.Address byte d ≡ true
-unfolding acksTo stageAfter answers answersShared
-all-call-heard d byte driver call e other =
-    rw (ne-eqb (byte / 2) 3 other, driver, call, eq-eqb (held d (allcalladr (outputsOf (d .chip))) / 2) (byte / 2) e)
+-- bit k of MODE1 lets a driver with n outputs answer the address in register r: ALLCALLADR by bit 0, SUBADR1, 2, 3 by bits 3, 2, 1
+abbrev pub Lets : ℕ → ℕ → ℕ → Type 0
+Lets n k r =
+    ((k ≡ 0) × (r ≡ allcalladr n))
+    ⊎ (((k ≡ 3) × (r ≡ subadr1 n)) ⊎ (((k ≡ 2) × (r ≡ subadr1 n + 1)) ⊎ ((k ≡ 1) × (r ≡ subadr1 n + 2))))
+
+one-of-four : (a b c d : Bool) → (a ≡ true) ⊎ ((b ≡ true) ⊎ ((c ≡ true) ⊎ (d ≡ true))) → (a || b || c || d) ≡ true
+one-of-four a b c d (inl e) = rw e refl
+one-of-four a b c d (inr (inl e)) = rw (e, or-true a) refl
+one-of-four a b c d (inr (inr (inl e))) = rw (e, or-true (a || b)) refl
+one-of-four a b c d (inr (inr (inr e))) = rw (e, or-true (a || b || c)) refl
+
+shared-answered : (d : Device) (k r address : ℕ) → Lets (outputsOf (d .chip)) k r → sharedBy d k r address ≡ true → answersShared d (outputsOf (d .chip)) address ≡ true
+unfolding answersShared
+shared-answered d k r address lets h =
+    let n = outputsOf (d .chip) in
+    one-of-four (sharedBy d 0 (allcalladr n) address) (sharedBy d 3 (subadr1 n) address) (sharedBy d 2 (subadr1 n + 1) address) (sharedBy d 1 (subadr1 n + 2) address)
+    (⊎-elim (λ x. inl (rw (x .0, x .1) at h)) (λ l. inr (⊎-elim (λ x. inl (rw (x .0, x .1) at h)) (λ m. inr (⊎-elim (λ x. inl (rw (x .0, x .1) at h)) (λ x. inr (rw (x .0, x .1) at h)) m)) l)) lets)
+
+-- a driver acknowledges each shared address that MODE1 lets it answer, whatever its own address is, awake or asleep, for reads and writes alike
+pub shared-call-heard : (d : Device) (k r byte : ℕ) → isDriver (d .chip) ≡ true → Lets (outputsOf (d .chip)) k r → bit k (held d mode1) ≡ true → held d r / 2 ≡ byte / 2 → (byte / 2 ≡ 3 → ⊥) → acksTo P.Address byte d ≡ true
+unfolding acksTo stageAfter answers
+shared-call-heard d k r byte driver lets on e other =
+    rw (ne-eqb (byte / 2) 3 other, driver, shared-answered d k r (byte / 2) lets (rw (on, eq-eqb (held d r / 2) (byte / 2) e) refl))
     (go (eqb (ownAddress d) (byte / 2)) (eqb (byte % 2) 0))
   where
     go : (own even : Bool) → isSelected (cond (own || true) (cond even Control Talking) Unselected) ≡ true
