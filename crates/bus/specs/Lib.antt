@@ -3,8 +3,5 @@ pub mod Refusals
 pub mod Bus
 pub mod Replies
 pub mod Events
-pub mod Duty
 pub mod laws
 pub mod Promises
-pub mod Demand3
-pub mod Witness

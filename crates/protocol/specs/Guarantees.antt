@@ -1,5 +1,5 @@
 -- The failures of earlier versions cannot recur: a shared call address is heard; nothing of a message takes effect before its STOP while OCH is 0; and at the STOP all of it does.
--- The third failure, lit time by rounding, is met by lit's answers being the tick-by-tick sum (crate `bus`).
+-- The third failure, lit time by rounding, is met by lit's answers being the tick-by-tick sum (crate `duty`).
 use mathlib.Core.Path.{_≡_, refl, _∙_}
 use mathlib.Core.Bool.{Bool, true, false, _&&_, _||_, cond, and-false, or-true, true≢false}
 use mathlib.Core.Logic.{_⊎_, inl, inr, ⊎-elim}

@@ -24,10 +24,10 @@ use Rattle.device.specs.declared.Device.{Device}
 use Rattle.device.specs.declared.Phase.the-variants.{Idle}
 use Rattle.protocol.specs.Stop.{tabulate}
 use Rattle.protocol.specs.laws.Lists.{getD-tabulate}
 use Rattle.bus.specs.First.{allFirst}
 use Rattle.bus.specs.Bus.{busOk, deviceAt}
-use Rattle.bus.specs.Duty.{Output, Individual, Dimmed, Stands}
+use Rattle.duty.specs.Output.{Output, Individual, Dimmed, Stands}
 use Rattle.bus.specs.declared.Bus.{Bus}
 
 -- what is in effect: this brightness at the output, this group dimming, and this byte in every LEDOUT register
 abbrev inForce : ℕ → ℕ → ℕ → ℕ → ℕ → ℕ → ℕ

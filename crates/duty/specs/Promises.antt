@@ -17,12 +17,12 @@ use Rattle.device.specs.Registers.{isAwake}
 use Rattle.device.specs.Output.{driverOutput, lampLit, litOf}
 use Rattle.device.specs.Wait.{overruns}
 use Rattle.device.specs.declared.Device.{Device}
 use Rattle.bus.specs.Refusals.{codeOf}
 use Rattle.bus.specs.Bus.{deviceAt}
 use Rattle.bus.specs.Replies.{refusedWith, answer, litRefusals, litDone, litReply}
-use Rattle.bus.specs.Duty.{Output, Individual, Dimmed, Stands}
+use Rattle.duty.specs.Output.{Output, Individual, Dimmed, Stands}
 use Rattle.bus.specs.laws.Refusals.{NoneHolds, accepted}
 use Rattle.bus.specs.declared.Bus.{Bus}
 
 -- ---- lit's value is the tick-by-tick sum
 

@@ -1,0 +1,1 @@
+// Demand 3 on lit's answers is in specs/.
