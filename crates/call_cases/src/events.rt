@@ -69,62 +69,98 @@ fn pair() -> Bus {
     setup::added(setup::one(9635, 16), 9531, 2)
 }
 
-fn signals() {
+fn started() -> Bus {
+    setup::after(bus::calls::start(pair()))
+}
+
+fn adding() {
     let bus = pair();
-    let started = setup::after(bus::calls::start(bus));
-    let writing = setup::put(started, 32);
-    let reading = setup::put(started, 33);
     both(
         b"add 9551 3",
         bus::calls::numbered(bus, 1, 9551, 3, 0),
         bus::calls::add(bus, 9551, 3),
     );
+}
+
+fn starting() {
+    let bus = pair();
     both(
         b"start",
         bus::calls::numbered(bus, 2, 0, 0, 0),
         bus::calls::start(bus),
     );
+}
+
+fn putting() {
+    let bus = started();
     both(
         b"put 32",
-        bus::calls::numbered(started, 3, 32, 0, 0),
-        bus::calls::put(started, 32),
+        bus::calls::numbered(bus, 3, 32, 0, 0),
+        bus::calls::put(bus, 32),
     );
+}
+
+fn getting() {
+    let bus = setup::put(started(), 33);
     both(
         b"get 1",
-        bus::calls::numbered(reading, 4, 1, 0, 0),
-        bus::calls::get(reading, 1),
+        bus::calls::numbered(bus, 4, 1, 0, 0),
+        bus::calls::get(bus, 1),
     );
+}
+
+fn stopping() {
+    let bus = setup::put(started(), 32);
     both(
         b"stop",
-        bus::calls::numbered(writing, 5, 0, 0, 0),
-        bus::calls::stop(writing),
+        bus::calls::numbered(bus, 5, 0, 0, 0),
+        bus::calls::stop(bus),
     );
 }
 
 // LED0 of the PCA9531 is lit.
-fn places() {
-    let bus = setup::set(pair(), 98, 0x05, 0x01);
-    let later = setup::waited(bus, 1, 500);
+fn lit_pair() -> Bus {
+    setup::set(pair(), 98, 0x05, 0x01)
+}
+
+fn waiting() {
+    let bus = lit_pair();
     both(
         b"wait 1 500",
         bus::calls::numbered(bus, 6, 1, 500, 0),
         bus::calls::wait(bus, 1, 500),
     );
+}
+
+fn enabling() {
+    let bus = lit_pair();
     both(
         b"oe 0 1",
         bus::calls::numbered(bus, 7, 0, 1, 0),
         bus::calls::oe(bus, 0, 1),
     );
+}
+
+fn levelling() {
+    let bus = lit_pair();
     both(
         b"ext 1 90",
         bus::calls::numbered(bus, 8, 1, 90, 0),
         bus::calls::ext(bus, 1, 90),
     );
+}
+
+fn resetting() {
+    let bus = setup::waited(lit_pair(), 1, 500);
     both(
         b"reset 1",
-        bus::calls::numbered(later, 9, 1, 0, 0),
-        bus::calls::reset(later, 1),
+        bus::calls::numbered(bus, 9, 1, 0, 0),
+        bus::calls::reset(bus, 1),
     );
+}
+
+fn questions() {
+    let bus = lit_pair();
     both(
         b"lit 1 0 256",
         bus::calls::numbered(bus, 10, 1, 0, 256),
@@ -135,6 +171,19 @@ fn places() {
         bus::calls::numbered(bus, 11, 1, 3, 0),
         bus::calls::pin(bus, 1, 3),
     );
+}
+
+fn known() {
+    adding();
+    starting();
+    putting();
+    getting();
+    stopping();
+    waiting();
+    enabling();
+    levelling();
+    resetting();
+    questions();
 }
 
 // Numbers that name no event.
@@ -162,8 +211,7 @@ fn missing() {
 }
 
 pub fn run() {
-    signals();
-    places();
+    known();
     unknown(b"for device 0:", pair(), 0);
     unknown(b"for device 9:", pair(), 9);
     unknown(b"with no device:", bus::empty(), 0);
