@@ -52,6 +52,8 @@ pub fn run() {
     prescaled(5, 3);
     prescaled(3, 5);
     prescaled(0, 255);
+    // 001, section 8.2: 1 Hz and the shortest blink
+    prescaled(151, 0);
     prescaled(255, 254);
     prescaled(255, 255);
     refused();
