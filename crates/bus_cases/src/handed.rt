@@ -3,8 +3,14 @@ use bus::Bus;
 use chip::Chip;
 use device::Device;
 use device::Phase;
+ghost use mathlib.Core.Path.{_≡_};
+ghost use lib.ListN.{set};
+ghost use Rattle.device.specs.Fields.{withCount, withWritten};
+ghost use Rattle.device.specs.Reset.{fresh};
 
-pub fn in_phase(bus: Bus, phase: Phase) -> Bus {
+pub fn in_phase(bus: Bus, phase: Phase) -> Bus
+    ensures { λ r. ⌜ r ≡ record { phase = phase; count = bus .count; devices = bus .devices } ⌝ }
+{
     let devices = bus.devices;
     Bus {
         phase: phase,
@@ -14,7 +20,9 @@ pub fn in_phase(bus: Bus, phase: Phase) -> Bus {
 }
 
 // t as given; a driver is awake if MODE1 says so.
-pub fn counted(chip: Chip, mode1: u8, count: u64) -> Device {
+pub fn counted(chip: Chip, mode1: u8, count: u64) -> Device
+    ensures { λ r. ⌜ r ≡ withCount (withWritten (fresh chip 0) (set (fresh chip 0 .written) 0 mode1)) count ⌝ }
+{
     let mut next = device::fresh(chip, 0);
     next.written[0] = mode1;
     next.count = count;

@@ -18,6 +18,12 @@ fn address(bus: Bus, byte: u64) {
     line::value(bus::calls::put(setup::after(bus::calls::start(bus)), byte));
 }
 
+fn read_all(bus: Bus) {
+    let mut buffer = [0u8; 28];
+    message::read::read_message(bus, 16, 0x80, 28, &mut buffer, 0);
+    line::slice(&buffer);
+}
+
 fn stored(label: &[u8], bus: Bus) {
     line::text(b"read-only bits set, stored ");
     line::text(label);
@@ -49,7 +55,7 @@ fn past_the_registers() {
 pub fn run() {
     let bus = read_only_set();
     line::text(b"read-only bits set, read:");
-    setup::read(bus, 16, 0x80, 28);
+    read_all(bus);
     line::end();
     line::text(b"read-only bits set, acks of e0 e1 e2 e3 e4 e8:");
     address(bus, 0xe0);

@@ -1,6 +1,5 @@
 // The parts of a printed line. A number and a byte have a space before them.
 use bus::Reply;
-ghost use Prim.Native.Nat.{_≤_};
 
 pub fn text(part: &[u8]) {
     io::write_all(1, part);
@@ -15,15 +14,6 @@ pub fn number(n: u64) {
 pub fn byte(b: u8) {
     io::write_all(1, b" ");
     io::print_hex(1, b as u64, 2);
-}
-
-// The first n bytes of a buffer.
-pub fn bytes(buffer: &[u8; 32], n: usize)
-    requires { ⌜ n ≤ 32 ⌝ }
-{
-    for i in 0..n {
-        byte(buffer[i]);
-    }
 }
 
 pub fn slice(part: &[u8]) {

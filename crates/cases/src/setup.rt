@@ -3,83 +3,106 @@ use bus::Bus;
 use bus::Reply;
 use chip::Chip;
 use device::Device;
-ghost use Prim.Native.Nat.{_≤_};
+ghost use mathlib.Core.Path.{_≡_};
+ghost use mathlib.Core.List.{[], _∷_};
+ghost use lib.ListN.{getD};
+ghost use Rattle.device.specs.Fields.{withControl};
+ghost use Rattle.device.specs.Reset.{fresh};
+ghost use Rattle.device.specs.declared.Phase.the-variants.{Idle};
+ghost use Rattle.bus.specs.Bus.{emptyBus, deviceAt, withDevice};
+ghost use Rattle.bus.specs.Replies.{addReply, startReply, stopReply, putReply, waitReply};
+ghost use Rattle.message.specs.Message.{writeReply};
 
-pub fn after(reply: Reply) -> Bus {
+pub fn after(reply: Reply) -> Bus
+    ensures { λ r. ⌜ r ≡ reply .bus ⌝ }
+{
     let bus = reply.bus;
     bus
 }
 
-pub fn added(bus: Bus, chip: u64, address: u64) -> Bus {
+pub fn added(bus: Bus, chip: u64, address: u64) -> Bus
+    ensures { λ r. ⌜ r ≡ addReply bus chip address .bus ⌝ }
+{
     after(bus::calls::add(bus, chip, address))
 }
 
 // A bus with one fresh device.
-pub fn one(chip: u64, address: u64) -> Bus {
+pub fn one(chip: u64, address: u64) -> Bus
+    ensures { λ r. ⌜ r ≡ addReply emptyBus chip address .bus ⌝ }
+{
     added(bus::empty(), chip, address)
 }
 
 // A bus with one device as handed in.
-pub fn holding(device: Device) -> Bus {
+pub fn holding(device: Device) -> Bus
+    ensures { λ r. ⌜ r ≡ withDevice (record { phase = Idle; count = 1; devices = emptyBus .devices }) 0 device ⌝ }
+{
     let mut bus = bus::empty();
     bus.count = 1;
     bus::with_device(bus, 0, device)
 }
 
-pub fn with_count(bus: Bus, count: u8) -> Bus {
+pub fn with_count(bus: Bus, count: u8) -> Bus
+    ensures { λ r. ⌜ r ≡ record { phase = bus .phase; count = count; devices = bus .devices } ⌝ }
+{
     let mut next = bus;
     next.count = count;
     next
 }
 
 // A fresh device, but for its control byte.
-pub fn controlled(chip: Chip, address: u8, control: u8) -> Device {
+pub fn controlled(chip: Chip, address: u8, control: u8) -> Device
+    ensures { λ r. ⌜ r ≡ withControl (fresh chip address) control ⌝ }
+{
     let mut device = device::fresh(chip, address);
     device.control = control;
     device
 }
 
 // A START and an address byte.
-pub fn addressed(bus: Bus, byte: u64) -> Bus {
+pub fn addressed(bus: Bus, byte: u64) -> Bus
+    ensures { λ r. ⌜ r ≡ putReply (startReply bus .bus) byte .bus ⌝ }
+{
     put(after(bus::calls::start(bus)), byte)
 }
 
-pub fn put(bus: Bus, byte: u64) -> Bus {
+pub fn put(bus: Bus, byte: u64) -> Bus
+    ensures { λ r. ⌜ r ≡ putReply bus byte .bus ⌝ }
+{
     after(bus::calls::put(bus, byte))
 }
 
-pub fn stopped(bus: Bus) -> Bus {
+pub fn stopped(bus: Bus) -> Bus
+    ensures { λ r. ⌜ r ≡ stopReply bus .bus ⌝ }
+{
     after(bus::calls::stop(bus))
 }
 
-pub fn waited(bus: Bus, dev: u64, ticks: u64) -> Bus {
+pub fn waited(bus: Bus, dev: u64, ticks: u64) -> Bus
+    ensures { λ r. ⌜ r ≡ waitReply bus dev ticks .bus ⌝ }
+{
     after(bus::calls::wait(bus, dev, ticks))
 }
 
-pub fn written(bus: Bus, address: u64, bytes: &[u8]) -> Bus {
+pub fn written(bus: Bus, address: u64, bytes: &[u8]) -> Bus
+    ensures { λ r. ⌜ r ≡ writeReply bus address (now (bytes .entry)) .bus ⌝ }
+{
     after(message::write::write_message(bus, address, bytes))
 }
 
 // One register by a message of its own, with no auto-increment.
-pub fn set(bus: Bus, address: u64, register: u8, value: u8) -> Bus {
+pub fn set(bus: Bus, address: u64, register: u8, value: u8) -> Bus
+    ensures { λ r. ⌜ r ≡ writeReply bus address (register ∷ value ∷ []) .bus ⌝ }
+{
     let bytes = [register, value];
     written(bus, address, &bytes)
 }
 
 // A register of a device, as written.
 pub fn register(bus: Bus, dev: u64, register: usize) -> u8
-    requires { ⌜ register ≤ 27 ⌝ }
+    ensures { λ r. ⌜ r ≡ getD (deviceAt bus dev .written) register 0 ⌝ }
 {
     let device = bus::device_at(bus, dev);
     let registers = device.written;
-    registers[register]
-}
-
-// Prints n bytes of a read message.
-pub fn read(bus: Bus, address: u64, control: u64, n: usize)
-    requires { ⌜ n ≤ 32 ⌝ }
-{
-    let mut buffer = [0u8; 32];
-    message::read::read_message(bus, address, control, n as u64, &mut buffer, 0);
-    crate::line::bytes(&buffer, n);
+    device::registers::at(registers, register)
 }
