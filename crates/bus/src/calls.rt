@@ -1,10 +1,14 @@
-// The calls on a bus. Each judges the bus that it is handed and asks nothing of its caller, but for `step_judged`.
+// The calls on a bus. Each judges the bus that it is handed and asks nothing of its caller.
 use crate::Bus;
 use crate::Event;
 use crate::Reply;
+use lamp::BlinkerSteps;
+use lamp::DriverTicks;
+use lamp::Duration;
 ghost use mathlib.Core.Path.{_≡_};
-ghost use Rattle.bus.specs.Bus.{busOk};
+ghost use Rattle.lamp.specs.declared.Duration.the-variants.{Ticks, Steps};
 ghost use Rattle.bus.specs.Replies.{addReply, startReply, stopReply, putReply, getReply, waitReply, oeReply, extReply, resetReply, litReply, pinReply, blinkReply};
+ghost use Rattle.bus.specs.Units.{waitForReply, litForReply};
 ghost use Rattle.bus.specs.Events.{stepReply, numberedReply};
 
 pub fn add(bus: Bus, chip: u64, address: u64) -> Reply
@@ -40,7 +44,20 @@ pub fn get(bus: Bus, ack: u64) -> Reply
 pub fn wait(bus: Bus, dev: u64, ticks: u64) -> Reply
     ensures { λ r. ⌜ r ≡ waitReply bus dev ticks ⌝ }
 {
-    crate::place::wait(crate::devices::is_ok(bus), bus, dev, ticks)
+    crate::time::wait(crate::devices::is_ok(bus), bus, dev, ticks)
+}
+
+// For ticks, which only a driver has, and for steps, which only a blinker has.
+pub fn wait_ticks(bus: Bus, dev: u64, ticks: DriverTicks) -> Reply
+    ensures { λ r. ⌜ r ≡ waitForReply bus dev (Ticks ticks) ⌝ }
+{
+    crate::time::wait_for(crate::devices::is_ok(bus), bus, dev, Duration::Ticks(ticks))
+}
+
+pub fn wait_steps(bus: Bus, dev: u64, steps: BlinkerSteps) -> Reply
+    ensures { λ r. ⌜ r ≡ waitForReply bus dev (Steps steps) ⌝ }
+{
+    crate::time::wait_for(crate::devices::is_ok(bus), bus, dev, Duration::Steps(steps))
 }
 
 pub fn oe(bus: Bus, dev: u64, level: u64) -> Reply
@@ -64,7 +81,31 @@ pub fn reset(bus: Bus, dev: u64) -> Reply
 pub fn lit(bus: Bus, dev: u64, out: u64, ticks: u64) -> Reply
     ensures { λ r. ⌜ r ≡ litReply bus dev out ticks ⌝ }
 {
-    crate::place::lit(crate::devices::is_ok(bus), bus, dev, out, ticks)
+    crate::time::lit(crate::devices::is_ok(bus), bus, dev, out, ticks)
+}
+
+pub fn lit_ticks(bus: Bus, dev: u64, out: u64, ticks: DriverTicks) -> Reply
+    ensures { λ r. ⌜ r ≡ litForReply bus dev out (Ticks ticks) ⌝ }
+{
+    crate::time::lit_for(
+        crate::devices::is_ok(bus),
+        bus,
+        dev,
+        out,
+        Duration::Ticks(ticks),
+    )
+}
+
+pub fn lit_steps(bus: Bus, dev: u64, out: u64, steps: BlinkerSteps) -> Reply
+    ensures { λ r. ⌜ r ≡ litForReply bus dev out (Steps steps) ⌝ }
+{
+    crate::time::lit_for(
+        crate::devices::is_ok(bus),
+        bus,
+        dev,
+        out,
+        Duration::Steps(steps),
+    )
 }
 
 pub fn pin(bus: Bus, dev: u64, out: u64) -> Reply
@@ -80,30 +121,10 @@ pub fn blink_start(bus: Bus, dev: u64) -> Reply
     crate::place::blink_start(crate::devices::is_ok(bus), bus, dev)
 }
 
-// An event is the call of its name. ok says whether the bus is well formed: a loop that carries it need not judge the bus at every event.
-pub fn step_judged(ok: bool, bus: Bus, event: Event) -> Reply
-    requires { ⌜ ok ≡ busOk bus ⌝ }
-    ensures { λ r. ⌜ r ≡ stepReply bus event ⌝ }
-{
-    match event {
-        Event::Add { chip, addr } => crate::add::add(ok, bus, chip, addr),
-        Event::Start => crate::signals::start(ok, bus),
-        Event::Stop => crate::signals::stop(ok, bus),
-        Event::Put(byte) => crate::signals::put(ok, bus, byte),
-        Event::Get(ack) => crate::signals::get(ok, bus, ack),
-        Event::Wait { dev, ticks } => crate::place::wait(ok, bus, dev, ticks),
-        Event::Oe { dev, level } => crate::place::oe(ok, bus, dev, level),
-        Event::Ext { dev, level } => crate::place::ext(ok, bus, dev, level),
-        Event::Reset { dev } => crate::place::reset(ok, bus, dev),
-        Event::Lit { dev, out, ticks } => crate::place::lit(ok, bus, dev, out, ticks),
-        Event::Pin { dev, out } => crate::place::pin(ok, bus, dev, out),
-    }
-}
-
 pub fn step(bus: Bus, event: Event) -> Reply
     ensures { λ r. ⌜ r ≡ stepReply bus event ⌝ }
 {
-    step_judged(crate::devices::is_ok(bus), bus, event)
+    crate::proved_callers::step_judged(crate::devices::is_ok(bus), bus, event)
 }
 
 // For callers that have no enum: 1 add, 2 start, 3 put, 4 get, 5 stop, 6 wait, 7 oe, 8 ext, 9 reset, 10 lit, 11 pin.

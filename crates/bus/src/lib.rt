@@ -10,8 +10,10 @@ mod add;
 pub mod calls;
 mod devices;
 mod place;
+pub mod proved_callers;
 mod refusal;
 mod signals;
+mod time;
 
 pub use devices::device_at;
 pub use devices::is_ok;

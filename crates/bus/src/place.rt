@@ -6,10 +6,10 @@ ghost use mathlib.Core.Path.{_≡_};
 ghost use Rattle.chip.specs.Kinds.{isDriver};
 ghost use Rattle.bus.specs.Bus.{busOk, deviceAt};
 ghost use Rattle.bus.specs.Refusals.{codeOf};
-ghost use Rattle.bus.specs.Replies.{placeRefusals, waitRefusals, waitReply, levelRefusals, oeRefusals, extRefusals, oeReply, extReply, resetReply, isMissing, isTooLong, litRefusals, litReply, pinRefusals, pinReply, blinkRefusals, blinkReply};
+ghost use Rattle.bus.specs.Replies.{placeRefusals, levelRefusals, oeRefusals, extRefusals, oeReply, extReply, resetReply, isMissing, pinRefusals, pinReply, blinkRefusals, blinkReply};
 
 // 3 no device there, 4 a bus that is not well formed.
-fn place_code(ok: bool, bus: Bus, dev: u64) -> u64
+pub fn place_code(ok: bool, bus: Bus, dev: u64) -> u64
     requires { ⌜ ok ≡ busOk bus ⌝ }
     ensures { λ r. ⌜ r ≡ codeOf (placeRefusals bus dev) ⌝ }
 {
@@ -17,27 +17,6 @@ fn place_code(ok: bool, bus: Bus, dev: u64) -> u64
         if ok { 0 } else { 4 }
     } else {
         3
-    }
-}
-
-fn wait_code(ok: bool, bus: Bus, dev: u64, ticks: u64) -> u64
-    requires { ⌜ ok ≡ busOk bus ⌝ }
-    ensures { λ r. ⌜ r ≡ codeOf (waitRefusals bus dev ticks) ⌝ }
-{
-    let holds = device::wait::overruns(crate::devices::device_at(bus, dev), ticks);
-    or_refused(place_code(ok, bus, dev), 6, holds)
-}
-
-pub fn wait(ok: bool, bus: Bus, dev: u64, ticks: u64) -> Reply
-    requires { ⌜ ok ≡ busOk bus ⌝ }
-    ensures { λ r. ⌜ r ≡ waitReply bus dev ticks ⌝ }
-{
-    let code = wait_code(ok, bus, dev, ticks);
-    if code == 0 {
-        let next = device::wait::waited(crate::devices::device_at(bus, dev), ticks);
-        crate::done(0, crate::devices::with_device(bus, dev, next))
-    } else {
-        crate::refused(bus, code)
     }
 }
 
@@ -110,43 +89,12 @@ pub fn reset(ok: bool, bus: Bus, dev: u64) -> Reply
     }
 }
 
-fn is_missing(bus: Bus, dev: u64, out: u64) -> bool
+pub fn is_missing(bus: Bus, dev: u64, out: u64) -> bool
     ensures { λ r. ⌜ r ≡ isMissing bus dev out ⌝ }
 {
     let d = crate::devices::device_at(bus, dev);
     let chip = d.chip;
     chip::outputs(chip) as u64 <= out
-}
-
-fn is_too_long(bus: Bus, dev: u64, ticks: u64) -> bool
-    ensures { λ r. ⌜ r ≡ isTooLong bus dev ticks ⌝ }
-{
-    if lamp::LIMIT < ticks {
-        true
-    } else {
-        device::wait::overruns(crate::devices::device_at(bus, dev), ticks)
-    }
-}
-
-fn lit_code(ok: bool, bus: Bus, dev: u64, out: u64, ticks: u64) -> u64
-    requires { ⌜ ok ≡ busOk bus ⌝ }
-    ensures { λ r. ⌜ r ≡ codeOf (litRefusals bus dev out ticks) ⌝ }
-{
-    let code = or_refused(place_code(ok, bus, dev), 6, is_too_long(bus, dev, ticks));
-    or_refused(code, 9, is_missing(bus, dev, out))
-}
-
-pub fn lit(ok: bool, bus: Bus, dev: u64, out: u64, ticks: u64) -> Reply
-    requires { ⌜ ok ≡ busOk bus ⌝ }
-    ensures { λ r. ⌜ r ≡ litReply bus dev out ticks ⌝ }
-{
-    let code = lit_code(ok, bus, dev, out, ticks);
-    if code == 0 {
-        let value = device::output::lit(crate::devices::device_at(bus, dev), out as u8, ticks);
-        crate::done(value, bus)
-    } else {
-        crate::refused(bus, code)
-    }
 }
 
 fn pin_code(ok: bool, bus: Bus, dev: u64, out: u64) -> u64
@@ -183,8 +131,8 @@ pub fn blink_start(ok: bool, bus: Bus, dev: u64) -> Reply
 {
     let code = blink_code(ok, bus, dev);
     if code == 0 {
-        let value = device::start::common_start(crate::devices::device_at(bus, dev));
-        crate::done(value, bus)
+        let steps = device::start::common_start(crate::devices::device_at(bus, dev));
+        crate::done(steps.0, bus)
     } else {
         crate::refused(bus, code)
     }

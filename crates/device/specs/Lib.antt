@@ -2,8 +2,8 @@ pub mod Fields
 pub mod Reset
 pub mod Registers
 pub mod Bits
-pub mod Output
 pub mod Wait
+pub mod Output
 pub mod Blink
 pub mod WellFormed
 pub mod laws

@@ -6,6 +6,8 @@ use lib.Dec.{eqb}
 use Rattle.lamp.specs.Window.{countedTicks}
 use Rattle.lamp.specs.Driver.{driverMode, driverLit}
 use Rattle.lamp.specs.Blinker.{blinkerLit}
+use Rattle.lamp.specs.Duration.{amount}
+use Rattle.lamp.specs.declared.Duration.{Duration}
 use Rattle.lamp.specs.declared.DriverMode.{DriverMode}
 use Rattle.lamp.specs.declared.BlinkerMode.{BlinkerMode}
 use Rattle.lamp.specs.declared.BlinkerMode.the-variants.{Off, On, LitBelow, LitFrom}
@@ -15,6 +17,7 @@ use Rattle.chip.specs.declared.Chip.{Chip}
 use Rattle.chip.specs.declared.Chip.the-variants.{Pca9635, Pca9634, Pca9531, Pca9551}
 use Rattle.device.specs.Bits.{maskFirst}
 use Rattle.device.specs.Registers.{bit, held, inEffect, isAwake, isBlinking, isInverted, isTotemPole, outne}
+use Rattle.device.specs.Wait.{isOwn}
 use Rattle.device.specs.declared.Device.{Device}
 
 -- an output's two bits of a byte that holds those of four, the lowest output lowest
@@ -63,6 +66,10 @@ litNow d out = lampLit d out (d .count)
 -- the lit ticks among the next w: tick by tick, or, asleep, w times the present state
 unfoldable pub litOf : Device → ℕ → ℕ → ℕ
 litOf d out w = cond (isAwake d) (countedTicks (lampLit d out) (d .count) w) (cond (litNow d out) w 0)
+
+-- the same of a duration; 0 in the other kind's unit, which every call refuses
+abbrev pub litFor : Device → ℕ → Duration → ℕ
+litFor d out w = cond (isOwn (d .chip) w) (litOf d out (amount w)) 0
 
 -- a pin is low, high or high-Z
 abbrev pub low : ℕ

@@ -3,9 +3,16 @@ use Prim.Native.Nat.{ℕ, _+_}
 use mathlib.Core.Bool.{Bool, not, _&&_, cond}
 use lib.Dec.{leb}
 use Rattle.lamp.specs.Window.{countLimit}
+use Rattle.lamp.specs.Duration.{amount}
+use Rattle.lamp.specs.declared.Duration.{Duration}
+use Rattle.lamp.specs.declared.Duration.the-variants.{Ticks, Steps}
+use Rattle.chip.specs.Kinds.{isDriver}
+use Rattle.chip.specs.declared.Chip.{Chip}
 use Rattle.device.specs.Fields.{withCount}
 use Rattle.device.specs.Registers.{isAwake}
 use Rattle.device.specs.declared.Device.{Device}
+
+-- ---- a number of the device's own unit
 
 -- an awake device's count would pass the limit
 unfoldable pub overruns : Device → ℕ → Bool
@@ -18,3 +25,21 @@ advanced t w = cond (leb (t + w) countLimit) (t + w) t
 -- asleep the count stands still
 unfoldable pub waitedOf : Device → ℕ → Device
 waitedOf d w = cond (isAwake d) (withCount d (advanced (d .count) w)) d
+
+-- ---- a duration, which says its unit
+
+-- whether it is in the unit of a kind of chip
+abbrev pub isOwn : Chip → Duration → Bool
+isOwn chip (Ticks ticks) = isDriver chip
+isOwn chip (Steps steps) = not (isDriver chip)
+
+-- so many of the unit of a kind of chip
+abbrev pub ownDuration : Chip → ℕ → Duration
+ownDuration chip n = cond (isDriver chip) (Ticks (record { 0 = n })) (Steps (record { 0 = n }))
+
+-- ticks are never added to a blinker's count, nor steps to a driver's
+abbrev pub overrunsFor : Device → Duration → Bool
+overrunsFor d w = isOwn (d .chip) w && overruns d (amount w)
+
+abbrev pub waitedFor : Device → Duration → Device
+waitedFor d w = cond (isOwn (d .chip) w) (waitedOf d (amount w)) d

@@ -8,9 +8,9 @@ use lamp::DriverTicks;
 ghost use mathlib.Core.Path.{_≡_};
 ghost use mathlib.Core.Bool.{cond};
 ghost use Prim.Native.Nat.{_^_, _<_};
-ghost use Rattle.lamp.specs.Window.{countedTicks};
+ghost use Rattle.lamp.specs.declared.Duration.the-variants.{Ticks, Steps};
 ghost use Rattle.chip.specs.Kinds.{outputsOf};
-ghost use Rattle.device.specs.Output.{pairOf, driverOutput, blinkerMode, blinkerOutput, lampLit, litNow, litOf, undriven, disabledPin, driverPin, pinOf, inputBit, inputByte};
+ghost use Rattle.device.specs.Output.{pairOf, driverOutput, blinkerMode, blinkerOutput, litNow, litFor, undriven, disabledPin, driverPin, pinOf, inputBit, inputByte};
 
 fn pair(byte: u8, out: u8) -> u8
     ensures { λ r. ⌜ r ≡ pairOf byte out ⌝ }
@@ -95,37 +95,33 @@ pub fn is_lit(d: Device, out: u8) -> bool
     }
 }
 
-// The lit ticks of an awake device: each kind in its own unit.
-fn counted(d: Device, out: u8, ticks: u64) -> u64
-    ensures { λ r. ⌜ r ≡ countedTicks (lampLit d out) (d .count) ticks ⌝ }
+// The lit ticks among the next so many of a driver; asleep, all of them or none.
+pub fn driver_lit(d: Device, out: u8, ticks: DriverTicks) -> DriverTicks
+    ensures { λ r. ⌜ r .0 ≡ litFor d out (Ticks ticks) ⌝ }
 {
     let chip = d.chip;
     if chip::is_driver(chip) {
-        let lit = lamp::driver_lit_ticks(
-            driver_output(d, out),
-            DriverTicks(d.count),
-            DriverTicks(ticks),
-        );
-        lit.0
+        if crate::registers::is_awake(d) {
+            lamp::driver_lit_ticks(driver_output(d, out), DriverTicks(d.count), ticks)
+        } else if is_lit(d, out) {
+            ticks
+        } else {
+            DriverTicks(0)
+        }
     } else {
-        let lit = lamp::blinker_lit_steps(
-            blinker_output(d, out),
-            BlinkerSteps(d.count),
-            BlinkerSteps(ticks),
-        );
-        lit.0
+        DriverTicks(0)
     }
 }
 
-pub fn lit(d: Device, out: u8, ticks: u64) -> u64
-    ensures { λ r. ⌜ r ≡ litOf d out ticks ⌝ }
+// The lit steps among the next so many of a blinker.
+pub fn blinker_lit(d: Device, out: u8, steps: BlinkerSteps) -> BlinkerSteps
+    ensures { λ r. ⌜ r .0 ≡ litFor d out (Steps steps) ⌝ }
 {
-    if crate::registers::is_awake(d) {
-        counted(d, out, ticks)
-    } else if is_lit(d, out) {
-        ticks
+    let chip = d.chip;
+    if chip::is_driver(chip) {
+        BlinkerSteps(0)
     } else {
-        0
+        lamp::blinker_lit_steps(blinker_output(d, out), BlinkerSteps(d.count), steps)
     }
 }
 

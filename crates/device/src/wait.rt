@@ -1,66 +1,129 @@
-// Time: each kind of device counts in its own unit.
+// Time: each kind of device counts in its own unit, and a wait in the other's moves nothing.
 use crate::Device;
+use chip::Chip;
 use lamp::BlinkerSteps;
 use lamp::DriverTicks;
+use lamp::Duration;
 ghost use mathlib.Core.Path.{_≡_};
-ghost use Rattle.device.specs.Wait.{overruns, advanced, waitedOf};
+ghost use Rattle.lamp.specs.declared.Duration.the-variants.{Ticks, Steps};
+ghost use Rattle.device.specs.Wait.{advanced, isOwn, ownDuration, overrunsFor, waitedFor};
 
-// Whether an awake device's count would pass the limit.
-pub fn overruns(d: Device, ticks: u64) -> bool
-    ensures { λ r. ⌜ r ≡ overruns d ticks ⌝ }
+// A bare number of ticks, as 01's events have it, in the unit of the chip's kind.
+pub fn own_duration(chip: Chip, n: u64) -> Duration
+    ensures { λ r. ⌜ r ≡ ownDuration chip n ⌝ }
 {
-    if crate::registers::is_awake(d) {
-        !lamp::within_limit(d.count, ticks)
+    if chip::is_driver(chip) {
+        Duration::Ticks(DriverTicks(n))
+    } else {
+        Duration::Steps(BlinkerSteps(n))
+    }
+}
+
+pub fn is_own(chip: Chip, duration: Duration) -> bool
+    ensures { λ r. ⌜ r ≡ isOwn chip duration ⌝ }
+{
+    match duration {
+        Duration::Ticks(_) => chip::is_driver(chip),
+        Duration::Steps(_) => !chip::is_driver(chip),
+    }
+}
+
+// Whether an awake driver's count would pass the limit.
+pub fn driver_overruns(d: Device, ticks: DriverTicks) -> bool
+    ensures { λ r. ⌜ r ≡ overrunsFor d (Ticks ticks) ⌝ }
+{
+    let chip = d.chip;
+    if chip::is_driver(chip) {
+        if crate::registers::is_awake(d) {
+            !lamp::driver_within(DriverTicks(d.count), ticks)
+        } else {
+            false
+        }
     } else {
         false
     }
 }
 
-// The count after a wait, in whichever unit it is. Past the limit it stays, which no call lets happen.
-fn advanced(count: u64, more: u64) -> u64
-    ensures { λ r. ⌜ r ≡ advanced count more ⌝ }
+// Whether a blinker's count would pass the limit.
+pub fn blinker_overruns(d: Device, steps: BlinkerSteps) -> bool
+    ensures { λ r. ⌜ r ≡ overrunsFor d (Steps steps) ⌝ }
 {
-    if lamp::within_limit(count, more) {
-        count + more
+    let chip = d.chip;
+    if chip::is_driver(chip) {
+        false
     } else {
-        count
+        !lamp::blinker_within(BlinkerSteps(d.count), steps)
     }
 }
 
+pub fn overruns(d: Device, duration: Duration) -> bool
+    ensures { λ r. ⌜ r ≡ overrunsFor d duration ⌝ }
+{
+    match duration {
+        Duration::Ticks(ticks) => driver_overruns(d, ticks),
+        Duration::Steps(steps) => blinker_overruns(d, steps),
+    }
+}
+
+// The count after a wait. Past the limit it stays, which no call lets happen.
 fn driver_advanced(at: DriverTicks, ticks: DriverTicks) -> DriverTicks
     ensures { λ r. ⌜ r .0 ≡ advanced (at .0) (ticks .0) ⌝ }
 {
-    DriverTicks(advanced(at.0, ticks.0))
+    if lamp::driver_within(at, ticks) {
+        DriverTicks(at.0 + ticks.0)
+    } else {
+        at
+    }
 }
 
 fn blinker_advanced(at: BlinkerSteps, steps: BlinkerSteps) -> BlinkerSteps
     ensures { λ r. ⌜ r .0 ≡ advanced (at .0) (steps .0) ⌝ }
 {
-    BlinkerSteps(advanced(at.0, steps.0))
-}
-
-// A number of the device's own ticks is taken in the unit of its kind.
-fn count_after(d: Device, ticks: u64) -> u64
-    ensures { λ r. ⌜ r ≡ advanced (d .count) ticks ⌝ }
-{
-    let chip = d.chip;
-    if chip::is_driver(chip) {
-        let next = driver_advanced(DriverTicks(d.count), DriverTicks(ticks));
-        next.0
+    if lamp::blinker_within(at, steps) {
+        BlinkerSteps(at.0 + steps.0)
     } else {
-        let next = blinker_advanced(BlinkerSteps(d.count), BlinkerSteps(ticks));
-        next.0
+        at
     }
 }
 
-pub fn waited(d: Device, ticks: u64) -> Device
-    ensures { λ r. ⌜ r ≡ waitedOf d ticks ⌝ }
+// Asleep a driver's count stands still.
+pub fn driver_waited(d: Device, ticks: DriverTicks) -> Device
+    ensures { λ r. ⌜ r ≡ waitedFor d (Ticks ticks) ⌝ }
 {
+    let chip = d.chip;
     let mut next = d;
-    if crate::registers::is_awake(d) {
-        next.count = count_after(d, ticks);
-        next
+    if chip::is_driver(chip) {
+        if crate::registers::is_awake(d) {
+            let at = driver_advanced(DriverTicks(d.count), ticks);
+            next.count = at.0;
+            next
+        } else {
+            d
+        }
     } else {
         d
+    }
+}
+
+pub fn blinker_waited(d: Device, steps: BlinkerSteps) -> Device
+    ensures { λ r. ⌜ r ≡ waitedFor d (Steps steps) ⌝ }
+{
+    let chip = d.chip;
+    let mut next = d;
+    if chip::is_driver(chip) {
+        d
+    } else {
+        let at = blinker_advanced(BlinkerSteps(d.count), steps);
+        next.count = at.0;
+        next
+    }
+}
+
+pub fn waited(d: Device, duration: Duration) -> Device
+    ensures { λ r. ⌜ r ≡ waitedFor d duration ⌝ }
+{
+    match duration {
+        Duration::Ticks(ticks) => driver_waited(d, ticks),
+        Duration::Steps(steps) => blinker_waited(d, steps),
     }
 }

@@ -1,4 +1,5 @@
 pub mod Window
+pub mod Duration
 pub mod Driver
 pub mod Blinker
 pub mod Duty

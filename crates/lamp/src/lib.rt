@@ -1,8 +1,9 @@
 // When an output is lit, and for how many ticks of a window, in each mode of each chip.
 ghost use mathlib.Core.Path.{_≡_};
 ghost use Prim.Native.Nat.{_+_, _<_};
-ghost use lib.Dec.{leb};
+ghost use lib.Dec.{leb, ltb};
 ghost use Rattle.lamp.specs.Window.{litTicks, countLimit, countedTicks};
+ghost use Rattle.lamp.specs.Duration.{amount};
 ghost use Rattle.lamp.specs.Driver.{grouped, driverMode, driverLit};
 ghost use Rattle.lamp.specs.Blinker.{stepCount, blinkerLit};
 
@@ -16,6 +17,12 @@ pub struct DriverTicks(pub u64);
 
 // Steps of a blinker's oscillator, 1/38,912 s on the PCA9531 and 1/9,728 s on the PCA9551.
 pub struct BlinkerSteps(pub u64);
+
+// A length of time in the unit of one oscillator.
+pub enum Duration {
+    Ticks(DriverTicks),
+    Steps(BlinkerSteps),
+}
 
 // What a driver's output follows: its LEDOUT bits, and the registers that they select.
 pub enum DriverMode {
@@ -114,8 +121,8 @@ fn driver_count(mode: DriverMode, x: u64) -> u64
     }
 }
 
-// Whether a window ends by the limit of a device's count.
-pub fn within_limit(at: u64, more: u64) -> bool
+// Whether a window ends by the limit of a device's count, in whichever unit both are.
+fn within_limit(at: u64, more: u64) -> bool
     ensures { λ r. ⌜ r ≡ leb (at + more) countLimit ⌝ }
 {
     if more <= LIMIT {
@@ -125,11 +132,33 @@ pub fn within_limit(at: u64, more: u64) -> bool
     }
 }
 
+pub fn driver_within(at: DriverTicks, ticks: DriverTicks) -> bool
+    ensures { λ r. ⌜ r ≡ leb (at .0 + ticks .0) countLimit ⌝ }
+{
+    within_limit(at.0, ticks.0)
+}
+
+pub fn blinker_within(at: BlinkerSteps, steps: BlinkerSteps) -> bool
+    ensures { λ r. ⌜ r ≡ leb (at .0 + steps .0) countLimit ⌝ }
+{
+    within_limit(at.0, steps.0)
+}
+
+// Whether a duration by itself is longer than the limit.
+pub fn is_above_limit(duration: Duration) -> bool
+    ensures { λ r. ⌜ r ≡ ltb countLimit (amount duration) ⌝ }
+{
+    match duration {
+        Duration::Ticks(ticks) => LIMIT < ticks.0,
+        Duration::Steps(steps) => LIMIT < steps.0,
+    }
+}
+
 // The lit ticks of a window of a driver's output.
 pub fn driver_lit_ticks(mode: DriverMode, at: DriverTicks, ticks: DriverTicks) -> DriverTicks
     ensures { λ r. ⌜ r .0 ≡ countedTicks (driverLit mode) (at .0) (ticks .0) ⌝ }
 {
-    if within_limit(at.0, ticks.0) {
+    if driver_within(at, ticks) {
         DriverTicks(driver_count(mode, at.0 + ticks.0) - driver_count(mode, at.0))
     } else {
         DriverTicks(0)
@@ -171,7 +200,7 @@ fn blinker_count(mode: BlinkerMode, x: u64) -> u64
 pub fn blinker_lit_steps(mode: BlinkerMode, at: BlinkerSteps, steps: BlinkerSteps) -> BlinkerSteps
     ensures { λ r. ⌜ r .0 ≡ countedTicks (blinkerLit mode) (at .0) (steps .0) ⌝ }
 {
-    if within_limit(at.0, steps.0) {
+    if blinker_within(at, steps) {
         BlinkerSteps(blinker_count(mode, at.0 + steps.0) - blinker_count(mode, at.0))
     } else {
         BlinkerSteps(0)

@@ -46,7 +46,7 @@ pub fn reply_to(ok: bool, bus: Bus, line: &[u8]) -> Reply
 {
     let parsed = parse(line);
     match parsed {
-        Parsed::Event(event) => bus::calls::step_judged(ok, bus, event),
+        Parsed::Event(event) => bus::proved_callers::step_judged(ok, bus, event),
         Parsed::Bad => bus::refused(bus, 4),
     }
 }

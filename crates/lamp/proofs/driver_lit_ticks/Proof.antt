@@ -11,17 +11,17 @@ use Rattle.lamp.proofs.driver_lit_ticks.Statement.{statement}
 use Rattle.lamp.proofs.driver_lit_ticks.Tie as tie
 
 add-driver-count : tie.Need-add-driver-count
-add-driver-count c = omega (arith, leb-true (c .before .before .before .before .args .at .0 + c .before .before .before .before .args .ticks .0) countLimit (sym (c .before .before .before .within-limit .ensures) ∙ c .before .before .if1 .taken))
+add-driver-count c = omega (arith, leb-true (c .before .before .before .before .args .at .0 + c .before .before .before .before .args .ticks .0) countLimit (sym (c .before .before .before .driver-within .ensures) ∙ c .before .before .if1 .taken))
 
 sub-t9 : tie.Need-sub-t9
 sub-t9 c = omega (arith, window (prefix (driverLit (c .before .before .before .before .before .before .args .mode))) (c .before .before .before .before .before .before .args .at .0) (c .before .before .before .before .before .before .args .ticks .0))
 
 returns : tie.Need-returns
-returns c = rw (c .driver-count2 .ensures, c .before .driver-count .ensures) (counted (driverLit (c .before .before .before .before .before .before .args .mode)) (c .before .before .before .before .before .before .args .at .0) (c .before .before .before .before .before .before .args .ticks .0) (sym (c .before .before .before .before .before .within-limit .ensures) ∙ c .before .before .before .before .if1 .taken))
+returns c = rw (c .driver-count2 .ensures, c .before .driver-count .ensures) (counted (driverLit (c .before .before .before .before .before .before .args .mode)) (c .before .before .before .before .before .before .args .at .0) (c .before .before .before .before .before .before .args .ticks .0) (sym (c .before .before .before .before .before .driver-within .ensures) ∙ c .before .before .before .before .if1 .taken))
 
 returns-2 : tie.Need-returns-2
 unfolding countedTicks
-returns-2 c = rw (sym (c .before .within-limit .ensures) ∙ c .if1 .left)
+returns-2 c = rw (sym (c .before .driver-within .ensures) ∙ c .if1 .left)
 
 pub driver-lit-ticks-spec : {M : Type 1} → statement M
 driver-lit-ticks-spec =

@@ -1,7 +1,7 @@
 use Rattle.bus.specs.Events.{stepReply}
 use borrow.Author.Needs.{needs}
-use Rattle.bus.proofs.calls.step_judged.Statement.{statement}
-use Rattle.bus.proofs.calls.step_judged.Tie as tie
+use Rattle.bus.proofs.proved_callers.step_judged.Statement.{statement}
+use Rattle.bus.proofs.proved_callers.step_judged.Tie as tie
 
 returns : tie.Need-returns
 unfolding stepReply

@@ -1,0 +1,47 @@
+-- Laws of time: a count after a wait, and a bare number in the device's own unit.
+use mathlib.Core.Path.{_≡_, refl, sym, _∙_}
+use mathlib.Core.Bool.{Bool, true, false}
+use Prim.Native.Nat.{ℕ, _+_, _^_, _<_}
+use native.Mathlib.Omega.{arith}
+use lib.Dec.{leb}
+use borrow.Author.Tests.{leb-true}
+use Rattle.lamp.specs.Window.{countLimit}
+use Rattle.lamp.specs.Duration.{amount}
+use Rattle.lamp.specs.declared.Duration.{Duration}
+use Rattle.chip.specs.Kinds.{isDriver}
+use Rattle.chip.specs.laws.Logic.{by-cases}
+use Rattle.chip.specs.declared.Chip.{Chip}
+use Rattle.device.specs.Output.{litOf, litFor}
+use Rattle.device.specs.Wait.{overruns, advanced, waitedOf, isOwn, ownDuration, overrunsFor, waitedFor}
+use Rattle.device.specs.declared.Device.{Device}
+
+-- a count advances where the test of the limit holds, and stays where not
+module _ (t w : ℕ) (b : Bool) (e : b ≡ leb (t + w) countLimit) where
+  pub within-fits : b ≡ true → t + w < 2 ^ 64
+  within-fits h = omega (arith, leb-true (t + w) countLimit (sym e ∙ h))
+
+  pub within-advanced : b ≡ true → t + w ≡ advanced t w
+  unfolding advanced
+  within-advanced h = rw (sym e ∙ h)
+
+  pub beyond-stays : b ≡ false → t ≡ advanced t w
+  unfolding advanced
+  beyond-stays h = rw (sym e ∙ h)
+
+-- a bare number in a chip's own unit is in its own unit, and is that number
+pub own-is-own : (chip : Chip) (n : ℕ) → isOwn chip (ownDuration chip n) ≡ true
+own-is-own chip n = by-cases (λ (w : Duration). isOwn chip w ≡ true) (isDriver chip) _ _ (λ e. e) (λ e. rw e)
+
+pub own-amount : (chip : Chip) (n : ℕ) → amount (ownDuration chip n) ≡ n
+own-amount chip n = by-cases (λ (w : Duration). amount w ≡ n) (isDriver chip) _ _ (λ e. refl) (λ e. refl)
+
+-- a duration in the device's own unit is the number that it holds
+module _ (d : Device) (w : Duration) (e : isOwn (d .chip) w ≡ true) where
+  pub own-overruns : overrunsFor d w ≡ overruns d (amount w)
+  own-overruns = rw e
+
+  pub own-waited : waitedFor d w ≡ waitedOf d (amount w)
+  own-waited = rw e
+
+  pub own-lit : (out : ℕ) → litFor d out w ≡ litOf d out (amount w)
+  own-lit out = rw e
