@@ -1,14 +1,17 @@
 -- Promises on every event, for any bus (demand 1): the code is the least number whose condition holds; a refused event has value 0 and leaves the bus as it was;
 -- a well-formed bus stays well formed, and is never refused for its shape.
 use mathlib.Core.Path.{_≡_, refl, sym, ap, _∙_}
-use mathlib.Core.Bool.{Bool, true, false, not, cond, or-false, true≢false}
+use mathlib.Core.Bool.{Bool, true, false, not, cond, or-false, true≢false, false≢true}
 use mathlib.Core.Logic.{_⊎_, inl, inr}
 use mathlib.Core.List.{List, [], _∷_}
 use Prim.Native.Nat.{ℕ, _+_, _<_}
 use native.Mathlib.Numerals.{add-one}
 use native.Mathlib.Omega.{arith}
 use lib.Dec.{leb, ltb, eqb}
-use borrow.Author.Tests.{eqb-true, leb-false, le-leb, ltb-true, not-false}
+use lib.ListN.{take}
+use borrow.Author.Tests.{eqb-true, eq-eqb, leb-false, le-leb, ltb-true, not-false}
+use Rattle.lamp.specs.Duration.{amount}
+use Rattle.lamp.specs.declared.Duration.{Duration}
 use Rattle.chip.specs.Kinds.{chipNumbered}
 use Rattle.chip.specs.Addresses.{addressAllowed}
 use Rattle.chip.specs.declared.Chip.the-variants.{Pca9635}
@@ -17,12 +20,14 @@ use Rattle.chip.specs.declared.Lookup.the-variants.{Known, Unknown}
 use Rattle.chip.specs.laws.Logic.{and-left, and-right, by-cases}
 use Rattle.device.specs.Fields.{withOe, withLevels}
 use Rattle.device.specs.Reset.{fresh, resetOf}
-use Rattle.device.specs.Wait.{waitedOf}
+use Rattle.device.specs.Bits.{mask, maskFirst}
+use Rattle.device.specs.Wait.{waitedOf, isOwn}
 use Rattle.device.specs.WellFormed.{wellFormed}
 use Rattle.device.specs.Promises.{fresh-well, reset-well, oe-well, levels-well, waited-well}
 use Rattle.device.specs.laws.WellFormed.{well-formed-ok}
 use Rattle.device.specs.declared.Device.{Device}
 use Rattle.device.specs.declared.Phase.{Phase}
+use Rattle.protocol.specs.Put.{acksTo}
 use Rattle.protocol.specs.Signal.{inTurn, phaseAfterSignal, deviceAfter}
 use Rattle.protocol.specs.Promises.{signal-well}
 use Rattle.protocol.specs.declared.Signal.{Signal}
@@ -30,10 +35,12 @@ use Rattle.protocol.specs.declared.Signal.the-variants as S
 use Rattle.bus.specs.First.{allFirst}
 use Rattle.bus.specs.Refusals.{Refusal, codeOf, holdsAt, risesFrom}
 use Rattle.bus.specs.Bus.{busOk, hasDevice, deviceAt, withDevice, withAdded, busAfter, emptyBus}
-use Rattle.bus.specs.Replies.{blinkRefusals, blinkDone, blinkReply, refusedWith, answer, signalReply, putReply, getReply, isBarred, addedTo, addReply, waitReply, oeReply, extReply, resetReply, litReply, pinReply}
+use Rattle.bus.specs.Replies.{blinkRefusals, blinkDone, blinkReply, refusedWith, answer, signalReply, putRefusals, putValue, putDone, putReply, getReply, isBarred, addedTo, addReply, waitReply, oeReply, extReply, resetReply, litReply, pinReply}
+use Rattle.bus.specs.Units.{isForeign, waitForRefusals, waitForDone, waitForReply, litForRefusals, litForDone, litForReply}
+use Rattle.bus.specs.laws.Units.{own-wait, own-lit}
 use Rattle.bus.specs.Events.{numberedReply, stepReply, stepRefusals, stepDone, runBus}
-use Rattle.bus.specs.laws.First.{all-at, all-set, all-added, all-mapped}
-use Rattle.bus.specs.laws.Refusals.{NoneHolds, none-at, accepted, IsLeast, code-least, least-code}
+use Rattle.bus.specs.laws.First.{all-at, all-set, all-added, all-mapped, empty-none, none-empty}
+use Rattle.bus.specs.laws.Refusals.{NoneHolds, none-at, accepted, Exact, exact}
 use Rattle.bus.specs.declared.Bus.{Bus}
 use Rattle.bus.specs.declared.Event.{Event}
 use Rattle.bus.specs.declared.Event.the-variants.{Add, Start, Stop, Put, Get, Wait, Oe, Ext, Reset, Lit, Pin}
@@ -57,6 +64,18 @@ answer-code l b d z = go (eqb (codeOf l) 0) refl
     go : (t : Bool) → eqb (codeOf l) 0 ≡ t → cond t d (refusedWith b (codeOf l)) .code ≡ codeOf l
     go true e = z ∙ sym (eqb-true (codeOf l) 0 e)
     go false e = refl
+
+pub answer-exact : (l : List Refusal) (b : Bus) (d : Reply) → risesFrom 0 l ≡ true → d .code ≡ 0 → Exact l (answer l b d .code)
+answer-exact l b d h z = exact l (answer l b d .code) h (answer-code l b d z)
+
+-- a code of 0 comes with no condition held, and with the reply of a done call
+pub answer-done : (l : List Refusal) (b : Bus) (d : Reply) → risesFrom 0 l ≡ true → answer l b d .code ≡ 0 → NoneHolds l × (answer l b d ≡ d)
+unfolding answer
+answer-done l b d h c = go (eqb (codeOf l) 0) refl c
+  where
+    go : (t : Bool) → eqb (codeOf l) 0 ≡ t → cond t d (refusedWith b (codeOf l)) .code ≡ 0 → NoneHolds l × (cond t d (refusedWith b (codeOf l)) ≡ d)
+    go true e z = (accepted 0 l h (eqb-true (codeOf l) 0 e), refl)
+    go false e z = absurd (false≢true (sym e ∙ eq-eqb (codeOf l) 0 z))
 
 pub answer-refused : (l : List Refusal) (b : Bus) (d : Reply) → d .code ≡ 0 → (answer l b d .code ≡ 0 → ⊥) → answer l b d ≡ refusedWith b (answer l b d .code)
 unfolding answer
@@ -116,11 +135,8 @@ pub step-code : (b : Bus) (e : Event) → stepReply b e .code ≡ codeOf (stepRe
 step-code b e = rw (step-is b e) (answer-code (stepRefusals b e) b (stepDone b e) (done-code b e))
 
 -- a code other than 0 is given exactly when its condition holds and no smaller one's does
-pub code-exact : (b : Bus) (e : Event) (k : ℕ) → 0 < k → (stepReply b e .code ≡ k → IsLeast (stepRefusals b e) k) × (IsLeast (stepRefusals b e) k → stepReply b e .code ≡ k)
-code-exact b e k p = (
-  λ c. code-least 0 (stepRefusals b e) (step-rises b e) k p (sym (step-code b e) ∙ c),
-  λ i. step-code b e ∙ least-code 0 (stepRefusals b e) (step-rises b e) k i,
-)
+pub code-exact : (b : Bus) (e : Event) → Exact (stepRefusals b e) (stepReply b e .code)
+code-exact b e = exact (stepRefusals b e) (stepReply b e .code) (step-rises b e) (step-code b e)
 
 -- ---- refused events
 
@@ -128,10 +144,17 @@ pub refused-same : (b : Bus) (e : Event) → (stepReply b e .code ≡ 0 → ⊥)
 refused-same b e n =
     rw (step-is b e) (answer-refused (stepRefusals b e) b (stepDone b e) (done-code b e) (λ z. n (ap (λ (r : Reply). r .code) (step-is b e) ∙ z)))
 
--- the blink-start question
+-- ---- the blink-start question
+
+pub blink-exact : (b : Bus) (dev : ℕ) → Exact (blinkRefusals b dev) (blinkReply b dev .code)
+unfolding blinkReply
+blink-exact b dev = answer-exact (blinkRefusals b dev) b (blinkDone b dev) refl refl
+
 pub blink-refused : (b : Bus) (dev : ℕ) → (blinkReply b dev .code ≡ 0 → ⊥) → blinkReply b dev ≡ refusedWith b (blinkReply b dev .code)
 unfolding blinkReply
 blink-refused b dev n = answer-refused (blinkRefusals b dev) b (blinkDone b dev) refl n
+
+-- ---- events by number
 
 -- an event by number is an event, or refused with 4; so what holds of events holds of it
 abbrev pub IsNumbered : Bus → Reply → Type 0
@@ -151,6 +174,61 @@ numbered-is b number x y z =
     by-cases (IsNumbered b) (eqb number 9) _ _ (λ h. inl (Reset x, refl)) (λ h.
     by-cases (IsNumbered b) (eqb number 10) _ _ (λ h. inl (Lit x y z, refl)) (λ h.
     by-cases (IsNumbered b) (eqb number 11) _ _ (λ h. inl (Pin x y, refl)) (λ h. inr refl)))))))))))
+
+-- ---- wait and lit in a unit
+
+module _ (b : Bus) (dev : ℕ) (w : Duration) where
+  pub wait-for-exact : Exact (waitForRefusals b dev w) (waitForReply b dev w .code)
+  unfolding waitForReply
+  wait-for-exact = answer-exact (waitForRefusals b dev w) b (waitForDone b dev w) refl refl
+
+  pub wait-for-refused : (waitForReply b dev w .code ≡ 0 → ⊥) → waitForReply b dev w ≡ refusedWith b (waitForReply b dev w .code)
+  unfolding waitForReply
+  wait-for-refused n = answer-refused (waitForRefusals b dev w) b (waitForDone b dev w) refl n
+
+  pub lit-for-exact : (out : ℕ) → Exact (litForRefusals b dev out w) (litForReply b dev out w .code)
+  unfolding litForReply
+  lit-for-exact out = answer-exact (litForRefusals b dev out w) b (litForDone b dev out w) refl refl
+
+  pub lit-for-refused : (out : ℕ) → (litForReply b dev out w .code ≡ 0 → ⊥) → litForReply b dev out w ≡ refusedWith b (litForReply b dev out w .code)
+  unfolding litForReply
+  lit-for-refused out n = answer-refused (litForRefusals b dev out w) b (litForDone b dev out w) refl n
+
+  -- in the device's own unit the answer is that to the bare number
+  pub own-unit : isForeign b dev w ≡ false → (waitForReply b dev w ≡ waitReply b dev (amount w)) × ((out : ℕ) → litForReply b dev out w ≡ litReply b dev out (amount w))
+  own-unit e = let own = not-false (isOwn (deviceAt b dev .chip) w) e in (own-wait b dev w own, own-lit b dev w own)
+
+  -- in the other unit every wait and lit is refused
+  pub other-unit : isForeign b dev w ≡ true → (waitForReply b dev w .code ≡ 0 → ⊥) × ((out : ℕ) → litForReply b dev out w .code ≡ 0 → ⊥)
+  unfolding waitForReply litForReply
+  other-unit e = (
+    λ c. true≢false (sym e ∙ answer-done (waitForRefusals b dev w) b (waitForDone b dev w) refl c .0 .1 .1 .1 .0),
+    λ out c. true≢false (sym e ∙ answer-done (litForRefusals b dev out w) b (litForDone b dev out w) refl c .0 .1 .1 .1 .1 .0),
+  )
+
+-- ---- a put's value
+
+-- none of the devices present acknowledges
+abbrev pub nobodyAcks : Bus → ℕ → Bool
+nobodyAcks b byte = allFirst (b .count) (λ d. not (acksTo (b .phase) byte d)) (b .devices)
+
+value-none : (set : ℕ) → putValue set ≡ 0 → set ≡ 0
+value-none set = go (eqb set 0) refl
+  where
+    go : (t : Bool) → eqb set 0 ≡ t → _≡_ {A = ℕ} (cond t 0 1) 0 → set ≡ 0
+    go true e z = eqb-true set 0 e
+    go false e z = absurd (omega arith)
+
+-- an accepted put's value is 0 exactly when nobody acknowledges
+pub put-unheard : (b : Bus) (byte : ℕ) → putReply b byte .code ≡ 0 → (putReply b byte .value ≡ 0 → nobodyAcks b byte ≡ true) × (nobodyAcks b byte ≡ true → putReply b byte .value ≡ 0)
+unfolding putReply allFirst maskFirst
+put-unheard b byte c =
+    let value = ap (λ (r : Reply). r .value) (answer-done (putRefusals b byte) b (putDone b byte) refl c .1) in
+    let p = acksTo (b .phase) byte in
+    let ds = take (b .count) (b .devices) in (
+      λ z. empty-none 1 p ds (omega arith) (value-none (mask 1 p ds) (sym value ∙ z)),
+      λ n. value ∙ rw (none-empty 1 p ds n) refl,
+    )
 
 -- ---- well-formedness
 

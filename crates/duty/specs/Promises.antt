@@ -1,11 +1,11 @@
 -- Demand 3 on the answers of lit: the bounds for every bus, position, output and length, and that each bound is reached. That the buses of which it speaks exist is in `Witness`.
 -- Once over the number of outputs: a driver's chip is a variable.
 use mathlib.Core.Path.{_≡_, refl, sym, ap, _∙_}
-use mathlib.Core.Bool.{Bool, true, false, _||_, cond, and-false, true≢false, false≢true}
+use mathlib.Core.Bool.{Bool, true, false, _||_, and-false, true≢false}
 use Prim.Native.Nat.{ℕ, _+_, _-_, _*_, _≤_, _<_}
 use native.Mathlib.Omega.{arith}
-use lib.Dec.{leb, ltb, eqb}
-use borrow.Author.Tests.{eqb-true, eq-eqb, le-leb, le-ltb, not-false}
+use lib.Dec.{leb, ltb}
+use borrow.Author.Tests.{le-leb, le-ltb, not-false}
 use Rattle.lamp.specs.Window.{litTicks, countLimit, countedTicks}
 use Rattle.lamp.specs.Driver.{driverLit}
 use Rattle.lamp.specs.Duty.{Bounded}
@@ -19,10 +19,11 @@ use Rattle.device.specs.Wait.{overruns}
 use Rattle.device.specs.declared.Device.{Device}
 use Rattle.bus.specs.Refusals.{codeOf}
 use Rattle.bus.specs.Bus.{deviceAt}
-use Rattle.bus.specs.Replies.{refusedWith, answer, litRefusals, litDone, litReply}
+use Rattle.bus.specs.Replies.{answer, litRefusals, litDone, litReply}
 use Rattle.duty.specs.Output.{Output, Individual, Dimmed, Stands}
-use Rattle.bus.specs.laws.Refusals.{NoneHolds, accepted}
+use Rattle.bus.specs.Promises.{answer-done}
 use Rattle.bus.specs.declared.Bus.{Bus}
+use Rattle.bus.specs.declared.Reply.{Reply}
 
 -- ---- lit's value is the tick-by-tick sum
 
@@ -30,26 +31,17 @@ neither : (a b : Bool) → (a || b) ≡ false → (a ≡ false) × (b ≡ false)
 neither true b e = (e, absurd (true≢false e))
 neither false b e = (refl, e)
 
--- a code of 0 comes with no condition held, and with the value of a done call
-lit-done : (b : Bus) (dev out w : ℕ) → litReply b dev out w .code ≡ 0 → NoneHolds (litRefusals b dev out w) × (litReply b dev out w .value ≡ litOf (deviceAt b dev) out w)
-unfolding litReply answer
-lit-done b dev out w c = go (eqb (codeOf (litRefusals b dev out w)) 0) refl c
-  where
-    go : (t : Bool) → eqb (codeOf (litRefusals b dev out w)) 0 ≡ t → cond t (litDone b dev out w) (refusedWith b (codeOf (litRefusals b dev out w))) .code ≡ 0 → NoneHolds (litRefusals b dev out w) × (cond t (litDone b dev out w) (refusedWith b (codeOf (litRefusals b dev out w))) .value ≡ litOf (deviceAt b dev) out w)
-    go true e z = (accepted 0 (litRefusals b dev out w) refl (eqb-true (codeOf (litRefusals b dev out w)) 0 e), refl)
-    go false e z = absurd (false≢true (sym e ∙ eq-eqb (codeOf (litRefusals b dev out w)) 0 z))
-
 in-limit : (d : Device) (w : ℕ) → isAwake d ≡ true → overruns d w ≡ false → leb (d .count + w) countLimit ≡ true
 unfolding overruns
 in-limit d w a o = not-false (leb (d .count + w) countLimit) (rw a at o)
 
 -- for an awake device, driver or blinker: the number of ticks among t .. t+w-1 at which the lamp's test holds
 pub lit-sum : (b : Bus) (dev out w : ℕ) → litReply b dev out w .code ≡ 0 → isAwake (deviceAt b dev) ≡ true → litReply b dev out w .value ≡ litTicks (lampLit (deviceAt b dev) out) (deviceAt b dev .count) w
-unfolding litOf countedTicks
+unfolding litReply litOf countedTicks
 lit-sum b dev out w c a =
-    let done = lit-done b dev out w c in
+    let done = answer-done (litRefusals b dev out w) b (litDone b dev out w) refl c in
     let long = neither (ltb countLimit w) (overruns (deviceAt b dev) w) (done .0 .1 .1 .0) in
-    done .1 ∙ rw (a, in-limit (deviceAt b dev) w a (long .1)) refl
+    ap (λ (r : Reply). r .value) (done .1) ∙ rw (a, in-limit (deviceAt b dev) w a (long .1)) refl
 
 -- ---- what an output follows
 

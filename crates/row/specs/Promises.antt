@@ -23,7 +23,8 @@ use Rattle.protocol.specs.declared.Signal.the-variants as S
 use Rattle.device.specs.Bits.{mask, maskFirst}
 use Rattle.bus.specs.First.{mapFirst, allFirst, andFirst, all, andOf}
 use Rattle.bus.specs.Bus.{busOk, hasDevice, deviceAt, emptyBus}
-use Rattle.bus.specs.Refusals.{Refusal, refuse, codeOf}
+use Rattle.bus.specs.Refusals.{Refusal, refuse, codeOf, risesFrom}
+use Rattle.bus.specs.laws.Refusals.{Exact, exact}
 use Rattle.bus.specs.Replies.{answer, refusedWith, putValue, waitRefusals, waitDone, waitReply}
 use Rattle.bus.specs.Events.{stepReply, stepRefusals, stepDone}
 use Rattle.bus.specs.Promises.{step-is, device-well}
@@ -257,7 +258,36 @@ row-is ds p e = go (ltb 8 (length ds)) refl (isSignal e) refl
     go false h false g = (rw (h, g) refl, rw (h, g) refl)
     go false h true g = rw (sym (code-at p e g ds h)) (reply-at p e g ds h, row-at p e g ds h)
 
+pub row-rises : (ds : List Device) (p : Phase) (e : Event) → risesFrom 0 (rowRefusals ds p e) ≡ true
+row-rises ds p e = refl
+
+done-zero : (ds : List Device) (p : Phase) (e : Event) → doneRow ds p e .code ≡ 0
+done-zero ds p (Add chip addr) = refl
+done-zero ds p Start = refl
+done-zero ds p Stop = refl
+done-zero ds p (Put byte) = refl
+done-zero ds p (Get ack) = refl
+done-zero ds p (Wait dev ticks) = refl
+done-zero ds p (Oe dev level) = refl
+done-zero ds p (Ext dev level) = refl
+done-zero ds p (Reset dev) = refl
+done-zero ds p (Lit dev out ticks) = refl
+done-zero ds p (Pin dev out) = refl
+
+pub row-exact : (ds : List Device) (p : Phase) (e : Event) → Exact (rowRefusals ds p e) (rowReply ds p e .code)
+row-exact ds p e =
+    exact (rowRefusals ds p e) (rowReply ds p e .code) (row-rises ds p e)
+    (ap (λ (r : RowReply). r .code) (row-is ds p e .0) ∙ go (codeOf (rowRefusals ds p e)) (eqb (codeOf (rowRefusals ds p e)) 0) refl)
+  where
+    go : (k : ℕ) (t : Bool) → eqb k 0 ≡ t → cond t (doneRow ds p e) (refusedRow p k) .code ≡ k
+    go k true q = done-zero ds p e ∙ sym (eqb-true k 0 q)
+    go k false q = refl
+
 -- ---- one record
+
+pub record-exact : (d : Device) (ticks : ℕ) → Exact (recordRefusals d ticks) (waitAnswer d ticks .code)
+unfolding waitAnswer
+record-exact d ticks = exact (recordRefusals d ticks) (waitAnswer d ticks .code) refl refl
 
 wait-code : (b : Bus) (dev ticks : ℕ) → busOk b ≡ true → hasDevice b dev ≡ true → codeOf (waitRefusals b dev ticks) ≡ codeOf (recordRefusals (deviceAt b dev) ticks)
 unfolding codeOf

@@ -24,8 +24,10 @@ pub struct Waited {
 fn wait_code(device: Device, ticks: u64) -> u64
     ensures { λ r. ⌜ r ≡ codeOf (recordRefusals device ticks) ⌝ }
 {
+    let chip = device.chip;
+    let duration = device::wait::own_duration(chip, ticks);
     if device::record::is_ok(device) {
-        if device::wait::overruns(device, ticks) {
+        if device::wait::overruns(device, duration) {
             6
         } else {
             0
@@ -35,17 +37,19 @@ fn wait_code(device: Device, ticks: u64) -> u64
     }
 }
 
-// The wait by value: the lent forms only copy and store.
+// The wait by value, of a bare number in the unit of the device's kind: the lent forms only copy and store.
 pub fn waited_record(device: Device, ticks: u64) -> Waited
     ensures { λ r. ⌜ r ≡ waitedRecord device ticks ⌝ }
 {
+    let chip = device.chip;
+    let duration = device::wait::own_duration(chip, ticks);
     let code = wait_code(device, ticks);
     let answer = Answer {
         code: code,
         value: 0,
     };
     if code == 0 {
-        let next = device::wait::waited(device, ticks);
+        let next = device::wait::waited(device, duration);
         Waited {
             device: next,
             answer: answer,

@@ -1,7 +1,7 @@
 -- The first n elements of a list, for any element, function and test: what a loop over them starts with, what a turn adds, what it ends with; and what keeps a test of all.
 use Prim.Native.Nat.{ℕ, zero, suc, _+_, _≤_, _<_}
 use mathlib.Core.Path.{_≡_, refl, sym, ap}
-use mathlib.Core.Bool.{Bool, true, false, _&&_}
+use mathlib.Core.Bool.{Bool, true, false, not, _&&_, cond, false≢true}
 use mathlib.Core.List.{List, [], _∷_}
 use native.Mathlib.Numerals.{add-one}
 use native.Mathlib.Nat.{le-of-suc-le-suc}
@@ -9,6 +9,7 @@ use native.Mathlib.Omega.{arith}
 use lib.Bits.{bitAnd}
 use lib.ListN.{length, take, getD, set}
 use Rattle.chip.specs.laws.Logic.{and-left, and-right}
+use Rattle.device.specs.Bits.{mask}
 use Rattle.bus.specs.First.{mapFirst, allFirst, andFirst, all, andOf}
 
 -- an element that is there does not depend on what would stand for a missing one
@@ -124,3 +125,21 @@ module _ {A : Type 0} (f : A → ℕ) where
 
   pub and-done : (l : List A) (m i n : ℕ) → i ≤ n → n ≤ i → m ≡ andFirst i f l → m ≡ andFirst n f l
   and-done l m i n h k e = let q : n ≡ i = omega arith in rw q e
+
+-- ---- a set of positions is empty exactly when the test fails at each
+
+pub empty-none : {A : Type 0} (w : ℕ) (p : A → Bool) (l : List A) → 0 < w → mask w p l ≡ 0 → all (λ x. not (p x)) l ≡ true
+empty-none w p [] h e = refl
+empty-none w p (x ∷ l) h e = go (p x) e (empty-none (w + w) p l (omega arith))
+  where
+    go : (t : Bool) → cond t w 0 + mask (w + w) p l ≡ 0 → (mask (w + w) p l ≡ 0 → all (λ y. not (p y)) l ≡ true) → (not t && all (λ y. not (p y)) l) ≡ true
+    go true z rest = absurd (omega arith)
+    go false z rest = rest (omega arith)
+
+pub none-empty : {A : Type 0} (w : ℕ) (p : A → Bool) (l : List A) → all (λ x. not (p x)) l ≡ true → mask w p l ≡ 0
+none-empty w p [] e = refl
+none-empty w p (x ∷ l) e = go (p x) e (none-empty (w + w) p l)
+  where
+    go : (t : Bool) → (not t && all (λ y. not (p y)) l) ≡ true → (all (λ y. not (p y)) l ≡ true → mask (w + w) p l ≡ 0) → cond t w 0 + mask (w + w) p l ≡ 0
+    go true z rest = absurd (false≢true z)
+    go false z rest = omega (arith, rest z)

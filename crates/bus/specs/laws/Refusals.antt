@@ -108,3 +108,10 @@ least-code low (r ∷ l) h k i =
     go : (b : Bool) → r .holds ≡ b → (IsLeast l k → codeOf l ≡ k) → cond b (r .number) (codeOf l) ≡ k
     go true q next = first q (ltb (r .number) k) refl
     go false q next = next (sym (later k q) ∙ i .0, λ j lt. sym (later j q) ∙ i .1 j lt)
+
+-- a code other than 0 is given exactly when its condition holds and no smaller one's does
+abbrev pub Exact : List Refusal → ℕ → Type 0
+Exact l code = (k : ℕ) → 0 < k → (code ≡ k → IsLeast l k) × (IsLeast l k → code ≡ k)
+
+pub exact : (l : List Refusal) (code : ℕ) → risesFrom 0 l ≡ true → code ≡ codeOf l → Exact l code
+exact l code h e k p = (λ c. code-least 0 l h k p (sym e ∙ c), λ i. e ∙ least-code 0 l h k i)

@@ -11,7 +11,6 @@ use Rattle.lamp.specs.declared.Duration.{Duration}
 use Rattle.chip.specs.Kinds.{isDriver}
 use Rattle.chip.specs.laws.Logic.{by-cases}
 use Rattle.chip.specs.declared.Chip.{Chip}
-use Rattle.device.specs.Output.{litOf, litFor}
 use Rattle.device.specs.Wait.{overruns, advanced, waitedOf, isOwn, ownDuration, overrunsFor, waitedFor}
 use Rattle.device.specs.declared.Device.{Device}
 
@@ -35,13 +34,10 @@ own-is-own chip n = by-cases (λ (w : Duration). isOwn chip w ≡ true) (isDrive
 pub own-amount : (chip : Chip) (n : ℕ) → amount (ownDuration chip n) ≡ n
 own-amount chip n = by-cases (λ (w : Duration). amount w ≡ n) (isDriver chip) _ _ (λ e. refl) (λ e. refl)
 
--- a duration in the device's own unit is the number that it holds
-module _ (d : Device) (w : Duration) (e : isOwn (d .chip) w ≡ true) where
-  pub own-overruns : overrunsFor d w ≡ overruns d (amount w)
-  own-overruns = rw e
+-- and so it overruns and waits as the number does
+module _ (d : Device) (n : ℕ) where
+  pub bare-overruns : overrunsFor d (ownDuration (d .chip) n) ≡ overruns d n
+  bare-overruns = rw (own-is-own (d .chip) n, own-amount (d .chip) n)
 
-  pub own-waited : waitedFor d w ≡ waitedOf d (amount w)
-  own-waited = rw e
-
-  pub own-lit : (out : ℕ) → litFor d out w ≡ litOf d out (amount w)
-  own-lit out = rw e
+  pub bare-waited : waitedFor d (ownDuration (d .chip) n) ≡ waitedOf d n
+  bare-waited = rw (own-is-own (d .chip) n, own-amount (d .chip) n)
