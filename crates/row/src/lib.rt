@@ -25,9 +25,8 @@ fn wait_code(device: Device, ticks: u64) -> u64
     ensures { λ r. ⌜ r ≡ codeOf (recordRefusals device ticks) ⌝ }
 {
     let chip = device.chip;
-    let duration = device::wait::own_duration(chip, ticks);
     if device::record::is_ok(device) {
-        if device::wait::overruns(device, duration) {
+        if device::wait::overruns(device, device::wait::own_duration(chip, ticks)) {
             6
         } else {
             0
