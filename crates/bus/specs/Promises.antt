@@ -146,9 +146,12 @@ refused-same b e n =
 
 -- ---- the blink-start question
 
+pub blink-rises : (b : Bus) (dev : ℕ) → risesFrom 0 (blinkRefusals b dev) ≡ true
+blink-rises b dev = refl
+
 pub blink-exact : (b : Bus) (dev : ℕ) → Exact (blinkRefusals b dev) (blinkReply b dev .code)
 unfolding blinkReply
-blink-exact b dev = answer-exact (blinkRefusals b dev) b (blinkDone b dev) refl refl
+blink-exact b dev = answer-exact (blinkRefusals b dev) b (blinkDone b dev) (blink-rises b dev) refl
 
 pub blink-refused : (b : Bus) (dev : ℕ) → (blinkReply b dev .code ≡ 0 → ⊥) → blinkReply b dev ≡ refusedWith b (blinkReply b dev .code)
 unfolding blinkReply
@@ -178,9 +181,15 @@ numbered-is b number x y z =
 -- ---- wait and lit in a unit
 
 module _ (b : Bus) (dev : ℕ) (w : Duration) where
+  pub wait-for-rises : risesFrom 0 (waitForRefusals b dev w) ≡ true
+  wait-for-rises = refl
+
+  pub lit-for-rises : (out : ℕ) → risesFrom 0 (litForRefusals b dev out w) ≡ true
+  lit-for-rises out = refl
+
   pub wait-for-exact : Exact (waitForRefusals b dev w) (waitForReply b dev w .code)
   unfolding waitForReply
-  wait-for-exact = answer-exact (waitForRefusals b dev w) b (waitForDone b dev w) refl refl
+  wait-for-exact = answer-exact (waitForRefusals b dev w) b (waitForDone b dev w) wait-for-rises refl
 
   pub wait-for-refused : (waitForReply b dev w .code ≡ 0 → ⊥) → waitForReply b dev w ≡ refusedWith b (waitForReply b dev w .code)
   unfolding waitForReply
@@ -188,7 +197,7 @@ module _ (b : Bus) (dev : ℕ) (w : Duration) where
 
   pub lit-for-exact : (out : ℕ) → Exact (litForRefusals b dev out w) (litForReply b dev out w .code)
   unfolding litForReply
-  lit-for-exact out = answer-exact (litForRefusals b dev out w) b (litForDone b dev out w) refl refl
+  lit-for-exact out = answer-exact (litForRefusals b dev out w) b (litForDone b dev out w) (lit-for-rises out) refl
 
   pub lit-for-refused : (out : ℕ) → (litForReply b dev out w .code ≡ 0 → ⊥) → litForReply b dev out w ≡ refusedWith b (litForReply b dev out w .code)
   unfolding litForReply
@@ -202,8 +211,8 @@ module _ (b : Bus) (dev : ℕ) (w : Duration) where
   pub other-unit : isForeign b dev w ≡ true → (waitForReply b dev w .code ≡ 0 → ⊥) × ((out : ℕ) → litForReply b dev out w .code ≡ 0 → ⊥)
   unfolding waitForReply litForReply
   other-unit e = (
-    λ c. true≢false (sym e ∙ answer-done (waitForRefusals b dev w) b (waitForDone b dev w) refl c .0 .1 .1 .1 .0),
-    λ out c. true≢false (sym e ∙ answer-done (litForRefusals b dev out w) b (litForDone b dev out w) refl c .0 .1 .1 .1 .1 .0),
+    λ c. true≢false (sym e ∙ answer-done (waitForRefusals b dev w) b (waitForDone b dev w) wait-for-rises c .0 .1 .1 .1 .0),
+    λ out c. true≢false (sym e ∙ answer-done (litForRefusals b dev out w) b (litForDone b dev out w) (lit-for-rises out) c .0 .1 .1 .1 .1 .0),
   )
 
 -- ---- a put's value

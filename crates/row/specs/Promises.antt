@@ -285,9 +285,12 @@ row-exact ds p e =
 
 -- ---- one record
 
+pub record-rises : (d : Device) (ticks : ℕ) → risesFrom 0 (recordRefusals d ticks) ≡ true
+record-rises d ticks = refl
+
 pub record-exact : (d : Device) (ticks : ℕ) → Exact (recordRefusals d ticks) (waitAnswer d ticks .code)
 unfolding waitAnswer
-record-exact d ticks = exact (recordRefusals d ticks) (waitAnswer d ticks .code) refl refl
+record-exact d ticks = exact (recordRefusals d ticks) (waitAnswer d ticks .code) (record-rises d ticks) refl
 
 wait-code : (b : Bus) (dev ticks : ℕ) → busOk b ≡ true → hasDevice b dev ≡ true → codeOf (waitRefusals b dev ticks) ≡ codeOf (recordRefusals (deviceAt b dev) ticks)
 unfolding codeOf
