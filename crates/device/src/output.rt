@@ -84,6 +84,7 @@ fn blinker_output(d: Device, out: u8) -> BlinkerMode
     }
 }
 
+// 01's "lit", at the present count.
 pub fn is_lit(d: Device, out: u8) -> bool
     ensures { λ r. ⌜ r ≡ litNow d out ⌝ }
 {
@@ -117,6 +118,7 @@ fn counted(d: Device, out: u8, ticks: u64) -> u64
     }
 }
 
+// 01's question "lit".
 pub fn lit(d: Device, out: u8, ticks: u64) -> u64
     ensures { λ r. ⌜ r ≡ litOf d out ticks ⌝ }
 {
