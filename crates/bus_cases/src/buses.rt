@@ -11,29 +11,32 @@ use device::Phase;
 const LIMIT: u64 = 281474976710656;
 
 fn place_codes(bus: Bus, dev: u64) {
-    line::code(bus::calls::wait(bus, dev, 1));
-    line::code(bus::calls::oe(bus, dev, 1));
-    line::code(bus::calls::ext(bus, dev, 1));
-    line::code(bus::calls::reset(bus, dev));
-    line::code(bus::calls::lit(bus, dev, 0, 1));
-    line::code(bus::calls::pin(bus, dev, 0));
-    line::code(bus::calls::blink_start(bus, dev));
+    line::named_code(b" wait=", bus::calls::wait(bus, dev, 1));
+    line::named_code(b" oe=", bus::calls::oe(bus, dev, 1));
+    line::named_code(b" ext=", bus::calls::ext(bus, dev, 1));
+    line::named_code(b" reset=", bus::calls::reset(bus, dev));
+    line::named_code(b" lit=", bus::calls::lit(bus, dev, 0, 1));
+    line::named_code(b" pin=", bus::calls::pin(bus, dev, 0));
+    line::named_code(b" blink=", bus::calls::blink_start(bus, dev));
 }
 
-// add, start, stop, put, get; wait, oe, ext, reset, lit, pin, blink-start; write message, read message.
+// The bus's events; those of a device, and the blink-start question; the messages.
 fn codes(bus: Bus, dev: u64) {
     let mut buffer = [0u8; 1];
     line::text(b":");
-    line::code(bus::calls::add(bus, 9531, 0));
-    line::code(bus::calls::start(bus));
-    line::code(bus::calls::stop(bus));
-    line::code(bus::calls::put(bus, 1));
-    line::code(bus::calls::get(bus, 1));
+    line::named_code(b" add=", bus::calls::add(bus, 9531, 0));
+    line::named_code(b" start=", bus::calls::start(bus));
+    line::named_code(b" stop=", bus::calls::stop(bus));
+    line::named_code(b" put=", bus::calls::put(bus, 1));
+    line::named_code(b" get=", bus::calls::get(bus, 1));
     line::text(b",");
     place_codes(bus, dev);
     line::text(b",");
-    line::code(message::write::write_message(bus, 1, b"\x01"));
-    line::code(message::read::read_message(bus, 1, 1, 1, &mut buffer, 0));
+    line::named_code(b" write=", message::write::write_message(bus, 1, b"\x01"));
+    line::named_code(
+        b" read=",
+        message::read::read_message(bus, 1, 1, 1, &mut buffer, 0),
+    );
     line::end();
 }
 
@@ -92,6 +95,16 @@ fn size(count: u8, dev: u64) {
     codes(setup::with_count(bus::empty(), count), dev);
 }
 
+fn nine_and_add(label: &[u8], chip: u64, address: u64) {
+    line::text(b"devices=9, add of ");
+    line::text(label);
+    line::named_code(
+        b" code=",
+        bus::calls::add(setup::with_count(bus::empty(), 9), chip, address),
+    );
+    line::end();
+}
+
 // Eight places hold at most eight devices.
 fn sizes() {
     size(0, 0);
@@ -101,10 +114,8 @@ fn sizes() {
     size(9, 7);
     size(9, 8);
     size(255, 20);
-    line::text(b"devices=9, add of chip 1, of 9635 at 3:");
-    line::code(bus::calls::add(setup::with_count(bus::empty(), 9), 1, 0));
-    line::code(bus::calls::add(setup::with_count(bus::empty(), 9), 9635, 3));
-    line::end();
+    nine_and_add(b"chip 1:", 1, 0);
+    nine_and_add(b"9635 at 3:", 9635, 3);
 }
 
 // A blinker beside a driver with an illegal control byte.
@@ -120,22 +131,26 @@ fn neighbours() {
     codes(bus, 0);
 }
 
-fn controls_past(bus: Bus) {
+fn controls_past(label: &[u8], bus: Bus) {
     let second = bus::device_at(bus, 1);
     let third = bus::device_at(bus, 2);
-    line::byte(second.control);
-    line::byte(third.control);
+    line::text(b"one device, places past it, ");
+    line::text(label);
+    line::named_byte(b" control1=", second.control);
+    line::named_byte(b" control2=", third.control);
+    line::end();
 }
 
 // Places past the count stay as they are; add writes the next one.
 fn past_the_count() {
     let bad = setup::controlled(Chip::Pca9635, 1, 0x20);
     let bus = bus::with_device(bus::with_device(setup::one(9531, 0), 1, bad), 2, bad);
-    line::text(b"controls past the count, after start and stop, after add:");
-    controls_past(bus);
-    controls_past(setup::stopped(setup::after(bus::calls::start(bus))));
-    controls_past(setup::added(bus, 9531, 2));
-    line::end();
+    controls_past(b"as handed in:", bus);
+    controls_past(
+        b"after start and stop:",
+        setup::stopped(setup::after(bus::calls::start(bus))),
+    );
+    controls_past(b"after add:", setup::added(bus, 9531, 2));
 }
 
 fn in_phase(label: &[u8], phase: Phase) {

@@ -7,56 +7,64 @@ use chip::Chip;
 use device::Device;
 use device::Phase;
 use device::Stage;
+ghost use mathlib.Core.Path.{_≡_};
+ghost use Rattle.device.specs.declared.Phase.the-variants.{Write};
+ghost use Rattle.bus.specs.Bus.{withDevice};
+ghost use Rattle.bus_cases.specs.Handed.{busIn, stagedOf, mixedBus};
 
-fn start_in(device: Device, phase: Phase) {
-    line::code(bus::calls::start(handed::in_phase(setup::holding(device), phase)));
+fn start_in(word: &[u8], device: Device, phase: Phase) {
+    line::named_code(
+        word,
+        bus::calls::start(handed::in_phase(setup::holding(device), phase)),
+    );
 }
 
 fn fits(label: &[u8], chip: Chip, stage: Stage) {
     let device = device::with_stage(device::fresh(chip, 0), stage);
     line::text(label);
-    line::text(b" in idle, address, write, read, ended:");
-    start_in(device, Phase::Idle);
-    start_in(device, Phase::Address);
-    start_in(device, Phase::Write);
-    start_in(device, Phase::Read);
-    start_in(device, Phase::Ended);
+    line::text(b", start in");
+    start_in(b" idle=", device, Phase::Idle);
+    start_in(b" address=", device, Phase::Address);
+    start_in(b" write=", device, Phase::Write);
+    start_in(b" read=", device, Phase::Read);
+    start_in(b" ended=", device, Phase::Ended);
     line::end();
 }
 
-// In the given stage, with 01h in register 02.
-fn staged(chip: Chip, address: u8, control: u8, stage: Stage) -> Device {
+// In the given stage, with 01h in PWM0.
+fn staged(chip: Chip, address: u8, control: u8, stage: Stage) -> Device
+    ensures { λ r. ⌜ r ≡ stagedOf chip address control stage ⌝ }
+{
     let mut device = setup::controlled(chip, address, control);
     device.written[2] = 0x01;
     device::with_stage(device, stage)
 }
 
-fn in_write(chip: Chip, stage: Stage) -> Bus {
+fn in_write(chip: Chip, stage: Stage) -> Bus
+    ensures { λ r. ⌜ r ≡ withDevice (busIn Write 1) 0 (stagedOf chip 0 0 stage) ⌝ }
+{
     handed::in_phase(setup::holding(staged(chip, 0, 0x00, stage)), Phase::Write)
 }
 
-fn controls(bus: Bus) {
-    let first = bus::device_at(bus, 0);
-    let second = bus::device_at(bus, 1);
-    let third = bus::device_at(bus, 2);
-    line::byte(first.control);
-    line::byte(second.control);
-    line::byte(third.control);
+fn held(label: &[u8], bus: Bus, dev: u64) {
+    let device = bus::device_at(bus, dev);
+    line::text(label);
+    line::named_byte(b" control=", device.control);
+    line::named_byte(b" pwm0=", setup::register(bus, dev, 2));
 }
 
-// Control byte and register 02 of each.
 fn three(label: &[u8], bus: Bus) {
     line::text(b"mixed stages, ");
     line::text(label);
-    controls(bus);
-    line::text(b",");
-    line::byte(setup::register(bus, 0, 2));
-    line::byte(setup::register(bus, 1, 2));
-    line::byte(setup::register(bus, 2, 2));
+    held(b" dev 0", bus, 0);
+    held(b", dev 1", bus, 1);
+    held(b", dev 2", bus, 2);
     line::end();
 }
 
-fn mixed_bus() -> Bus {
+fn mixed_bus() -> Bus
+    ensures { λ r. ⌜ r ≡ mixedBus ⌝ }
+{
     let bus = setup::holding(staged(Chip::Pca9635, 16, 0x80, Stage::Control));
     let bus = bus::with_device(bus, 1, staged(Chip::Pca9634, 17, 0x82, Stage::Data));
     let bus = bus::with_device(bus, 2, staged(Chip::Pca9635, 18, 0x83, Stage::ResetFirst));
@@ -71,7 +79,7 @@ fn mixed() {
     line::text(b"mixed stages, put 5a:");
     line::answer(reply);
     line::end();
-    three(b"control bytes and registers 02:", bus);
+    three(b"after put 5a:", bus);
     three(b"after a further put 81:", setup::put(bus, 0x81));
     three(b"after stop:", setup::stopped(bus));
     three(
@@ -84,19 +92,20 @@ fn call(label: &[u8], bus: Bus) {
     let first = bus::calls::put(bus, 0xa5);
     let second = bus::calls::put(setup::after(first), 0x5a);
     line::text(label);
-    line::text(b", acks of a5, 5a, register 02 after stop:");
-    line::value(first);
-    line::value(second);
-    line::byte(setup::register(setup::stopped(setup::after(second)), 0, 2));
+    line::named_value(b", acks a5=", first);
+    line::named_value(b" 5a=", second);
+    line::named_byte(
+        b", after stop pwm0=",
+        setup::register(setup::stopped(setup::after(second)), 0, 2),
+    );
     line::end();
 }
 
 fn stop(label: &[u8], bus: Bus) {
     let reply = bus::calls::stop(bus);
     line::text(label);
-    line::text(b", stop, register 02:");
-    line::code(reply);
-    line::byte(setup::register(setup::after(reply), 0, 2));
+    line::named_code(b", stop: code=", reply);
+    line::named_byte(b" pwm0=", setup::register(setup::after(reply), 0, 2));
     line::end();
 }
 

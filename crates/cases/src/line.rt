@@ -22,7 +22,7 @@ pub fn slice(part: &[u8]) {
     }
 }
 
-// For a label: a chip's number, a word and a number, a word and a byte.
+// A chip's number; a word and a number, a byte, a reply's code or its value.
 pub fn chip(number: u64) {
     io::print_decimal(1, number);
 }
@@ -35,6 +35,14 @@ pub fn named(word: &[u8], n: u64) {
 pub fn named_byte(word: &[u8], b: u8) {
     io::write_all(1, word);
     io::print_hex(1, b as u64, 2);
+}
+
+pub fn named_code(word: &[u8], reply: Reply) {
+    named(word, reply.code);
+}
+
+pub fn named_value(word: &[u8], reply: Reply) {
+    named(word, reply.value);
 }
 
 pub fn end() {
@@ -50,6 +58,6 @@ pub fn code(reply: Reply) {
 }
 
 pub fn answer(reply: Reply) {
-    named(b" code=", reply.code);
-    named(b" value=", reply.value);
+    named_code(b" code=", reply);
+    named_value(b" value=", reply);
 }

@@ -56,14 +56,14 @@ blinkerOutput d out =
 
 -- ---- any device
 
--- whether an output is lit at a count of ticks
+-- 01's "lit", of an output at a count of ticks
 unfoldable pub lampLit : Device → ℕ → ℕ → Bool
 lampLit d out = cond (isDriver (d .chip)) (driverLit (driverOutput d (outputsOf (d .chip)) out)) (blinkerLit (blinkerOutput d out))
 
 abbrev pub litNow : Device → ℕ → Bool
 litNow d out = lampLit d out (d .count)
 
--- the lit ticks among the next w: tick by tick, or, asleep, w times the present state
+-- 01's question "lit", the lit ticks among the next w: tick by tick, or, asleep, w times the present state
 unfoldable pub litOf : Device → ℕ → ℕ → ℕ
 litOf d out w = cond (isAwake d) (countedTicks (lampLit d out) (d .count) w) (cond (litNow d out) w 0)
 

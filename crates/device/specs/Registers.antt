@@ -15,7 +15,7 @@ bit k byte = eqb (byte / 2 ^ k % 2) 1
 abbrev pub held : Device → ℕ → ℕ
 held d r = getD (d .written) r 0
 
--- a register as in effect: PWM0 through LEDOUT of a driver have a copy for it, every other register acts at once
+-- a register as 01's "in effect": PWM0 through LEDOUT of a driver have a copy for it, every other register acts at once
 unfoldable pub inEffect : Device → ℕ → ℕ
 inEffect d r = cond (isBuffered (d .chip) r) (getD (d .effective) r 0) (held d r)
 
@@ -28,7 +28,7 @@ pointer d = pointed (d .chip) (d .control)
 abbrev pub isSleep : Device → Bool
 isSleep d = bit 4 (held d mode1)
 
--- a blinker is always awake
+-- 01's "awake": SLEEP 0; a blinker is always awake
 unfoldable pub isAwake : Device → Bool
 isAwake d = not (isDriver (d .chip) && isSleep d)
 

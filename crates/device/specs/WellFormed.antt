@@ -28,7 +28,7 @@ isRead P.Write = false
 isRead P.Read = true
 isRead P.Ended = false
 
--- a device listens, which the software reset call counts as, only in an open write, and talks only in an open read
+-- 01's "listening", which the software reset call counts as, only in an open write; its "talking" only in an open read
 abbrev pub stageFits : Phase → Stage → Bool
 stageFits p Unselected = true
 stageFits p Control = isWrite p

@@ -10,7 +10,8 @@ pub mod registers;
 pub mod start;
 pub mod wait;
 
-// What a device is doing in the message on the bus. The last three are the software reset call: 06h taken, then A5h, then 5Ah.
+// What a device is doing in the message on the bus: Talking is 01's "talking"; Control, Data and the last three are its "listening".
+// The last three are the software reset call: 06h taken, then A5h, then 5Ah.
 pub enum Stage {
     Unselected,
     Control,

@@ -84,6 +84,7 @@ fn blinker_output(d: Device, out: u8) -> BlinkerMode
     }
 }
 
+// 01's "lit", at the present count.
 pub fn is_lit(d: Device, out: u8) -> bool
     ensures { λ r. ⌜ r ≡ litNow d out ⌝ }
 {
@@ -95,7 +96,7 @@ pub fn is_lit(d: Device, out: u8) -> bool
     }
 }
 
-// The lit ticks among the next so many of a driver; asleep, all of them or none.
+// 01's question "lit" of a driver, in its ticks: those lit among the next so many; asleep, all of them or none.
 pub fn driver_lit(d: Device, out: u8, ticks: DriverTicks) -> DriverTicks
     ensures { λ r. ⌜ r .0 ≡ litFor d out (Ticks ticks) ⌝ }
 {
@@ -113,7 +114,7 @@ pub fn driver_lit(d: Device, out: u8, ticks: DriverTicks) -> DriverTicks
     }
 }
 
-// The lit steps among the next so many of a blinker.
+// The same of a blinker, in its steps.
 pub fn blinker_lit(d: Device, out: u8, steps: BlinkerSteps) -> BlinkerSteps
     ensures { λ r. ⌜ r .0 ≡ litFor d out (Steps steps) ⌝ }
 {

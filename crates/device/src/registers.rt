@@ -24,6 +24,7 @@ pub fn with_byte(registers: [u8; 28], register: usize, byte: u8) -> [u8; 28]
     next
 }
 
+// 01's "in effect".
 pub fn in_effect(d: Device, register: usize) -> u8
     ensures { λ r. ⌜ r ≡ inEffect d register ⌝ }
 {
@@ -37,6 +38,7 @@ pub fn in_effect(d: Device, register: usize) -> u8
     }
 }
 
+// 01's "awake": SLEEP 0; a blinker is always awake.
 pub fn is_awake(d: Device) -> bool
     ensures { λ r. ⌜ r ≡ isAwake d ⌝ }
 {

@@ -34,23 +34,37 @@ use Rattle.bus.specs.declared.Event.{Event}
 use Rattle.bus.specs.declared.Event.the-variants.{Add, Start, Stop, Put, Get, Wait, Lit}
 use Rattle.bus.specs.declared.Reply.{Reply}
 
--- an event, or the blink-start question, with the value asked for it; every code in the table is 0
+-- an event with the value asked for it, or with a bound besides, which the value has to reach; the blink-start question; every code in the table is 0
 pub data Step : Type 0 where
   on : Event → ℕ → Step
+  reaching : Event → ℕ → (ℕ → Bool) → Step
   blinks : ℕ → ℕ → Step
 
 abbrev pub replyTo : Bus → Step → Reply
 replyTo b (on e v) = stepReply b e
+replyTo b (reaching e v p) = stepReply b e
 replyTo b (blinks dev v) = blinkReply b dev
 
-abbrev pub valueOf : Step → ℕ
-valueOf (on e v) = v
-valueOf (blinks dev v) = v
+-- whether a value is the one asked for, and reaches the bound
+abbrev pub fits : Step → ℕ → Bool
+fits (on e v) x = eqb x v
+fits (reaching e v p) x = eqb x v && p x
+fits (blinks dev v) x = eqb x v
 
--- each step is accepted and answered with its value, one after the other from a bus
+-- each step is accepted and its value fits, one after the other from a bus
 unfoldable pub passes : Bus → List Step → Bool
 passes b [] = true
-passes b (s ∷ l) = eqb (replyTo b s .code) 0 && eqb (replyTo b s .value) (valueOf s) && passes (replyTo b s .bus) l
+passes b (s ∷ l) = eqb (replyTo b s .code) 0 && fits s (replyTo b s .value) && passes (replyTo b s .bus) l
+
+-- ---- bounds, of a value x of lit
+
+-- 256 times x is below w N by the bound N (256 - N), which is this number
+abbrev pub belowBy : (w N bound : ℕ) → ℕ → Bool
+belowBy w N bound x = eqb (w * N) (256 * x + bound) && eqb bound (N * (256 - N))
+
+-- 65,536 times x is above w M N by the bound M N (131,328 - 512 M - N), which is this number
+abbrev pub aboveBy : (w M N bound : ℕ) → ℕ → Bool
+aboveBy w M N bound x = eqb (65536 * x) (w * M * N + bound) && eqb bound (M * N * (131328 - 512 * M - N))
 
 -- ---- messages
 
@@ -89,10 +103,10 @@ table =
     ∷ (on (Add 9635 21) 0 ∷ written (byte 24 ∷ byte 227 ∷ []) ++ reads 24 226)
     -- 7. N=64, t=0, w=100: 64 lit
     ∷ (lamp 2 ++ on (Lit 0 0 100) 64 ∷ [])
-    -- 8. N=64, t=64, w=192: 0 lit
-    ∷ (lamp 2 ++ on (Wait 0 64) 0 ∷ on (Lit 0 0 192) 0 ∷ [])
-    -- 9. M=1, N=64, t=0, w=320: 128 lit
-    ∷ (lamp 3 ++ on (Lit 0 0 320) 128 ∷ [])
+    -- 8. N=64, t=64, w=192: 0 lit, bound 12,288 reached
+    ∷ (lamp 2 ++ on (Wait 0 64) 0 ∷ reaching (Lit 0 0 192) 0 (belowBy 192 64 12288) ∷ [])
+    -- 9. M=1, N=64, t=0, w=320: 128 lit, bound 8,368,128 reached
+    ∷ (lamp 3 ++ reaching (Lit 0 0 320) 128 (aboveBy 320 1 64 8368128) ∷ [])
     -- 10. 9531 in BLINK0, PSC0 1, PWM0 128: 256 lit of 512
     ∷ (on (Add 9531 5) 0 ∷ on Start 0 ∷ on (Put 202) 1 ∷ byte 17 ∷ byte 1 ∷ byte 128 ∷ on Start 0 ∷ on (Put 202) 1 ∷ byte 5 ∷ byte 2 ∷ on Stop 0 ∷ on (Lit 0 0 512) 256 ∷ [])
     -- 11. 9551 in BLINK0, PWM0 0: always lit
@@ -101,16 +115,10 @@ table =
     ∷ (on (Add 9531 5) 0 ∷ on Start 0 ∷ on (Put 202) 1 ∷ byte 17 ∷ byte 5 ∷ byte 128 ∷ byte 3 ∷ on Stop 0 ∷ blinks 0 3072 ∷ [])
     ∷ []
 
--- the bounds that examples 8 and 9 reach: 256 times 0 is 12,288 below 192 times 64, and 65,536 times 128 is 8,368,128 above 320 times 64
-abbrev pub boundsReached : Bool
-boundsReached =
-    eqb (192 * 64) (256 * 0 + 12288) && eqb (64 * (256 - 64)) 12288
-    && eqb (65536 * 128) (320 * 64 + 8368128) && eqb (64 * (131328 - 512 * 1 - 64)) 8368128
-
 unfoldable pub allPass : List (List Step) → Bool
 allPass [] = true
 allPass (row ∷ l) = passes emptyBus row && allPass l
 
-pub dozen : (allPass table && boundsReached) ≡ true
+pub dozen : allPass table ≡ true
 unfolding allPass table passes euclid gcdOf lcmOf commonStart busOk stepReply stepRefusals stepDone numberedReply mapFirst allFirst maskFirst andFirst codeOf answer signalReply putReply getReply addReply waitReply oeReply extReply resetReply litReply pinReply blinkReply addressAllowed controlLegal controlMoved pointed isBuffered resetRegisters storedByte readByte driverOutput blinkerOutput lampLit litOf pinOf inputByte inEffect isAwake resetOf overruns advanced waitedOf recordOk wellFormed litBelow litFrom blinkerLit individual grouped driverLit litTicks countedTicks heardBy acksTo registerByte pointedByte talkOf movedOn gottenFrom ownAddress answersShared answers stageAfter phaseAfterSignal deviceAfter tabulate committed effectOfStop stoppedOf pointedAt newByte effectiveAfter wakes countAfter storedIn takenBy acksData
 dozen = refl

@@ -1,4 +1,4 @@
--- Promises on both messages, for any bus: a refused message changes nothing; an accepted one is the run of its events; a well-formed bus stays well formed;
+-- Promises on both messages, for any bus: a refused message changes nothing; an accepted one is the run of its events, each of them done; a well-formed bus stays well formed;
 -- of the lent buffer only the part from the place on changes.
 use mathlib.Core.Path.{_≡_, refl, sym, _∙_}
 use mathlib.Core.Bool.{true}
@@ -10,12 +10,13 @@ use lib.ListN.{length, take, drop, length-append, length-drop}
 use lib.Seq.{length-take-le, take-at, drop-at}
 use borrow.Author.Tests.{eqb-true}
 use Rattle.chip.specs.laws.Logic.{by-cases}
+use Rattle.bus.specs.First.{all}
 use Rattle.bus.specs.Refusals.{Refusal, codeOf, risesFrom}
 use Rattle.bus.specs.Bus.{busOk}
 use Rattle.bus.specs.Replies.{refusedWith, answer}
-use Rattle.bus.specs.Events.{runBus}
-use Rattle.bus.specs.Promises.{answer-bus, answer-code, answer-refused, run-well}
-use Rattle.bus.specs.laws.Refusals.{IsLeast, code-least, least-code}
+use Rattle.bus.specs.Events.{runBus, runReplies}
+use Rattle.bus.specs.Promises.{answer-bus, answer-code, answer-exact, answer-refused, run-well}
+use Rattle.bus.specs.laws.Refusals.{Exact}
 use Rattle.bus.specs.laws.Replies.{answered}
 use Rattle.bus.specs.declared.Bus.{Bus}
 use Rattle.bus.specs.declared.Event.{Event}
@@ -24,6 +25,7 @@ use Rattle.message.specs.Message.{writeEvents, readHead, readEvents, mes
 use Rattle.message.specs.Sent.{valuesOf}
 use Rattle.message.specs.laws.Gets.{got-length}
 use Rattle.message.specs.laws.Buffer.{read-fits, buffer-stored, buffer-kept}
+use Rattle.message.specs.laws.Turns.{isDone, isByte, write-done, read-done}
 
 -- ---- once for both messages
 
@@ -34,9 +36,8 @@ module _ (l : List Refusal) (b : Bus) (events : List Event) where
   message-code : message .code ≡ codeOf l
   message-code = answer-code l b (messageDone b events) refl
 
-  message-exact : risesFrom 0 l ≡ true → (k : ℕ) → 0 < k → (message .code ≡ k → IsLeast l k) × (IsLeast l k → message .code ≡ k)
-  message-exact h k p =
-      (λ c. code-least 0 l h k p (sym message-code ∙ c), λ i. message-code ∙ least-code 0 l h k i)
+  message-exact : risesFrom 0 l ≡ true → Exact l (message .code)
+  message-exact h = answer-exact l b (messageDone b events) h refl
 
   message-is-run : message .code ≡ 0 → message ≡ messageDone b events
   message-is-run z =
@@ -53,13 +54,19 @@ module _ (l : List Refusal) (b : Bus) (events : List Event) where
 
 module _ (b : Bus) (address : ℕ) (bytes : List ℕ) where
   -- a code other than 0 is given exactly when its condition holds and no smaller one's does
-  pub write-exact : (k : ℕ) → 0 < k → (writeReply b address bytes .code ≡ k → IsLeast (writeRefusals b address) k) × (IsLeast (writeRefusals b address) k → writeReply b address bytes .code ≡ k)
+  pub write-exact : Exact (writeRefusals b address) (writeReply b address bytes .code)
   unfolding writeReply
   write-exact = message-exact (writeRefusals b address) b (writeEvents address bytes) refl
 
   pub write-is-run : writeReply b address bytes .code ≡ 0 → writeReply b address bytes ≡ messageDone b (writeEvents address bytes)
   unfolding writeReply
   write-is-run = message-is-run (writeRefusals b address) b (writeEvents address bytes)
+
+  -- no event inside it is refused; the lent bytes are bytes
+  pub write-all-done : all isByte bytes ≡ true → writeReply b address bytes .code ≡ 0 → all isDone (runReplies b (writeEvents address bytes)) ≡ true
+  unfolding writeReply
+  write-all-done h z =
+      write-done b address bytes h (sym (message-code (writeRefusals b address) b (writeEvents address bytes)) ∙ z)
 
   pub write-refused : (writeReply b address bytes .code ≡ 0 → ⊥) → writeReply b address bytes ≡ refusedWith b (writeReply b address bytes .code)
   unfolding writeReply
@@ -72,13 +79,20 @@ module _ (b : Bus) (address : ℕ) (bytes : List ℕ) where
 -- ---- the read
 
 module _ (b : Bus) (address control n place : ℕ) (buffer : List ℕ) where
-  pub read-exact : (k : ℕ) → 0 < k → (readReply b address control n place (length buffer) .code ≡ k → IsLeast (readRefusals b address control n place (length buffer)) k) × (IsLeast (readRefusals b address control n place (length buffer)) k → readReply b address control n place (length buffer) .code ≡ k)
+  pub read-exact : Exact (readRefusals b address control n place (length buffer)) (readReply b address control n place (length buffer) .code)
   unfolding readReply
   read-exact = message-exact (readRefusals b address control n place (length buffer)) b (readEvents address control n) refl
 
   pub read-is-run : readReply b address control n place (length buffer) .code ≡ 0 → readReply b address control n place (length buffer) ≡ messageDone b (readEvents address control n)
   unfolding readReply
   read-is-run = message-is-run (readRefusals b address control n place (length buffer)) b (readEvents address control n)
+
+  read-code : readReply b address control n place (length buffer) .code ≡ codeOf (readRefusals b address control n place (length buffer))
+  unfolding readReply
+  read-code = message-code (readRefusals b address control n place (length buffer)) b (readEvents address control n)
+
+  pub read-all-done : readReply b address control n place (length buffer) .code ≡ 0 → all isDone (runReplies b (readEvents address control n)) ≡ true
+  read-all-done z = read-done b address control n place buffer (sym read-code ∙ z)
 
   -- the bus and every lent byte as before
   pub read-refused : (readReply b address control n place (length buffer) .code ≡ 0 → ⊥) → (readReply b address control n place (length buffer) ≡ refusedWith b (readReply b address control n place (length buffer) .code)) × (bufferAfter b address control n place buffer ≡ buffer)
@@ -95,10 +109,7 @@ module _ (b : Bus) (address control n place : ℕ) (buffer : List ℕ) where
   -- ---- the lent buffer
 
   accepted-fits : readReply b address control n place (length buffer) .code ≡ 0 → place + n ≤ length buffer
-  unfolding readReply
-  accepted-fits z =
-      read-fits b address control n place buffer
-      (sym (message-code (readRefusals b address control n place (length buffer)) b (readEvents address control n)) ∙ z) .1
+  accepted-fits z = read-fits b address control n place buffer (sym read-code ∙ z) .inside
 
   -- what holds of the buffer as it was, and with the bytes got stored in it, holds of it afterwards
   afterwards : (P : List ℕ → Type 0) → P buffer → (place + n ≤ length buffer → P (stored b address control n place buffer)) → P (bufferAfter b address control n place buffer)

@@ -2,3 +2,4 @@ pub mod Runs
 pub mod Sent
 pub mod Gets
 pub mod Buffer
+pub mod Turns

@@ -1,4 +1,4 @@
--- The failures of earlier versions cannot recur: a shared call address is heard; nothing of a message takes effect before its STOP while OCH is 0; and at the STOP all of it does.
+-- The failures of earlier versions cannot recur: a shared call address is heard; nothing of a message takes effect before its STOP while OCH is 0; and at the STOP all of it does, unless that STOP resets the driver.
 -- The third failure, lit time by rounding, is met by lit's answers being the tick-by-tick sum (crate `duty`).
 use mathlib.Core.Path.{_≡_, refl, _∙_}
 use mathlib.Core.Bool.{Bool, true, false, _&&_, _||_, cond, and-false, or-true, true≢false}
@@ -52,7 +52,7 @@ shared-answered d k r address lets h =
     one-of-four (sharedBy d 0 (allcalladr n) address) (sharedBy d 3 (subadr1 n) address) (sharedBy d 2 (subadr1 n + 1) address) (sharedBy d 1 (subadr1 n + 2) address)
     (⊎-elim (λ x. inl (rw (x .0, x .1) at h)) (λ l. inr (⊎-elim (λ x. inl (rw (x .0, x .1) at h)) (λ m. inr (⊎-elim (λ x. inl (rw (x .0, x .1) at h)) (λ x. inr (rw (x .0, x .1) at h)) m)) l)) lets)
 
--- a driver acknowledges each shared address that MODE1 lets it answer, whatever its own address is, awake or asleep, for reads and writes alike
+-- a driver acknowledges each shared address that MODE1 lets it answer, but for address 3 (06h, 07h: the software reset call's), whatever its own address is, awake or asleep, for reads and writes alike
 pub shared-call-heard : (d : Device) (k r byte : ℕ) → isDriver (d .chip) ≡ true → Lets (outputsOf (d .chip)) k r → bit k (held d mode1) ≡ true → held d r / 2 ≡ byte / 2 → (byte / 2 ≡ 3 → ⊥) → acksTo P.Address byte d ≡ true
 unfolding acksTo stageAfter answers
 shared-call-heard d k r byte driver lets on e other =
@@ -140,7 +140,7 @@ few-registers Pca9634 = omega arith
 few-registers Pca9531 = omega arith
 few-registers Pca9551 = omega arith
 
--- after a STOP an awake driver that is not reset by it has PWM0 through LEDOUT in effect as written
+-- after a STOP an awake driver, unless that STOP resets it, has PWM0 through LEDOUT in effect as written
 pub all-shown-at-stop : (d : Device) (r : ℕ) → isDriver (d .chip) ≡ true → isAwake d ≡ true → tookReset (d .stage) ≡ false → isBuffered (d .chip) r ≡ true → inEffect (stoppedOf d) r ≡ held d r
 unfolding stoppedOf effectOfStop inEffect isBuffered committed
 all-shown-at-stop d r driver awake kept buffered =

@@ -15,6 +15,7 @@ use Rattle.device.specs.declared.Phase.the-variants as P
 use Rattle.device.specs.declared.Stage.{Stage}
 use Rattle.device.specs.declared.Stage.the-variants.{Unselected, Control, Data, Talking, ResetCall, ResetFirst, ResetBoth}
 
+-- 01's "talking"
 abbrev pub isTalking : Stage → Bool
 isTalking Unselected = false
 isTalking Control = false
@@ -31,7 +32,7 @@ registerByte d = readByte (d .chip) (d .control) (held d (pointer d))
 unfoldable pub pointedByte : Device → ℕ
 pointedByte d = cond (isDriver (d .chip)) (registerByte d) (cond (eqb (pointer d) input) (inputByte d) (registerByte d))
 
--- what the device puts on the bus: one that does not talk leaves every bit 1
+-- what the device puts on the bus, 01's "talking": one that does not talk leaves every bit 1
 unfoldable pub talkOf : Device → ℕ
 talkOf d = cond (isTalking (d .stage)) (pointedByte d) 255
 

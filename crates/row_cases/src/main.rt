@@ -1,46 +1,93 @@
-// Runs the calls on lent records, and writes a line for each: the code, the value, and the record's count after a wait;
-// the code, the value, the phase (0 idle, 1 address, 2 write, 3 read, 4 ended) and the first record's control byte after an event on a row.
+// The calls on lent records, a line for each: what is handed in, and what comes back. Control bytes are in hexadecimal.
 use bus::Event;
+use cases::line;
 use chip::Chip;
 use device::Device;
 use device::Phase;
 use row::RowReply;
 use row::Rowed;
+ghost use mathlib.Core.Path.{_≡_};
+ghost use Rattle.device.specs.declared.Phase.the-variants.{Idle};
+ghost use Rattle.bus.specs.declared.Event.the-variants.{Start, Stop, Put};
+ghost use Rattle.row_cases.specs.Chain.{nextOf};
 
-fn cell(n: u64, end: u8) {
-    let last = [end];
-    io::print_decimal(1, n);
-    io::write_all(1, &last);
-}
+// 2^48
+const LIMIT: u64 = 281474976710656;
 
-fn wait(device: Device, ticks: u64) -> Device {
+fn wait(device: Device, ticks: u64) {
     let w = row::wait_of(device, ticks);
     let answer = w.answer;
     let next = w.device;
-    cell(answer.code, b' ');
-    cell(answer.value, b' ');
-    cell(next.count, b'\n');
-    next
+    line::named(b", wait ", ticks);
+    line::named(b": code=", answer.code);
+    line::named(b" value=", answer.value);
+    line::named(b" count=", next.count);
+    line::end();
 }
 
-fn wait_from(count: u64, ticks: u64) -> Device {
-    let mut d = device::fresh(Chip::Pca9531, 2);
-    d.count = count;
-    wait(d, ticks)
+fn wait_from(count: u64, ticks: u64) {
+    let mut device = device::fresh(Chip::Pca9531, 2);
+    device.count = count;
+    line::named(b"9531 count=", count);
+    wait(device, ticks);
 }
 
-fn number_of(phase: Phase) -> u64 {
+fn waits() {
+    line::text(b"9635 asleep");
+    wait(device::fresh(Chip::Pca9635, 16), 5);
+    wait_from(0, 5);
+    wait_from(LIMIT - 5, 5);
+    wait_from(LIMIT, 1);
+    wait_from(LIMIT + 1, 1);
+}
+
+fn phase(phase: Phase) {
     match phase {
-        Phase::Idle => 0,
-        Phase::Address => 1,
-        Phase::Write => 2,
-        Phase::Read => 3,
-        Phase::Ended => 4,
+        Phase::Idle => line::text(b"idle"),
+        Phase::Address => line::text(b"address"),
+        Phase::Write => line::text(b"write"),
+        Phase::Read => line::text(b"read"),
+        Phase::Ended => line::text(b"ended"),
     }
 }
 
+// The events of a row, and one that is none.
+fn name(event: Event) {
+    match event {
+        Event::Start => line::text(b"start"),
+        Event::Stop => line::text(b"stop"),
+        Event::Put(byte) => line::named(b"put ", byte),
+        Event::Get(ack) => line::named(b"get ", ack),
+        Event::Reset { dev } => line::named(b"reset ", dev),
+        _ => line::text(b"another"),
+    }
+}
+
+fn handed(n: usize, before: Phase, event: Event) {
+    line::named(b"row of ", n as u64);
+    line::text(b" in ");
+    phase(before);
+    line::text(b", ");
+    name(event);
+}
+
+fn back(r: Rowed) {
+    let reply = r.reply;
+    let devices = r.devices;
+    let first = devices[0];
+    let after = reply.phase;
+    line::named(b": code=", reply.code);
+    line::named(b" value=", reply.value);
+    line::text(b" phase=");
+    phase(after);
+    line::named_byte(b" control=", first.control);
+    line::end();
+}
+
 // Nine records with no message.
-fn idle(devices: [Device; 9]) -> Rowed {
+fn idle(devices: [Device; 9]) -> Rowed
+    ensures { λ r. ⌜ r ≡ record { devices = devices; reply = record { code = 0; value = 0; phase = Idle } } ⌝ }
+{
     let reply = RowReply {
         code: 0,
         value: 0,
@@ -52,60 +99,59 @@ fn idle(devices: [Device; 9]) -> Rowed {
     }
 }
 
-fn event(r: Rowed, n: usize, event: Event) -> Rowed {
+fn event(r: Rowed, n: usize, event: Event) -> Rowed
+    ensures { λ next. ⌜ next ≡ nextOf r n event ⌝ }
+{
     let devices = r.devices;
     let reply = r.reply;
-    let phase = reply.phase;
-    let next = row::event_of(devices, n, phase, event);
-    let answer = next.reply;
-    let after = next.devices;
-    let first = after[0];
-    let phase_after = answer.phase;
-    cell(answer.code, b' ');
-    cell(answer.value, b' ');
-    cell(number_of(phase_after), b' ');
-    cell(first.control as u64, b'\n');
+    let before = reply.phase;
+    let next = row::event_of(devices, n, before, event);
+    handed(n, before, event);
+    back(next);
     next
 }
 
-fn main() {
-    let driver = device::fresh(Chip::Pca9635, 16);
-    wait(driver, 5);
-    wait_from(0, 5);
-    let full = wait_from(281474976710651, 5);
-    wait(full, 1);
-    wait_from(281474976710657, 1);
+// A message of one byte, which is the address.
+fn message(r: Rowed, n: usize, byte: u64) -> Rowed
+    ensures { λ next. ⌜ next ≡ nextOf (nextOf (nextOf r n Start) n (Put byte)) n Stop ⌝ }
+{
+    let r = event(r, n, Event::Start);
+    let r = event(r, n, Event::Put(byte));
+    event(r, n, Event::Stop)
+}
 
-    let mut devices = [driver; 9];
-    devices[1] = device::fresh(Chip::Pca9531, 2);
+// A PCA9635 and a PCA9531, then only PCA9635s; each event on the row that the one before left.
+fn rows(devices: [Device; 9]) {
     let r = event(idle(devices), 2, Event::Put(32));
-    let started = event(r, 2, Event::Start);
-    let selected = event(started, 2, Event::Put(32));
+    let r = event(r, 2, Event::Start);
+    let selected = event(r, 2, Event::Put(32));
     let r = event(selected, 2, Event::Put(256));
     let r = event(r, 2, Event::Put(129));
     let r = event(r, 2, Event::Start);
     let r = event(r, 2, Event::Put(33));
     let r = event(r, 2, Event::Get(1));
     let r = event(r, 2, Event::Get(2));
-    let r = event(r, 2, Event::Stop);
-    let r = event(r, 2, Event::Start);
-    let r = event(r, 2, Event::Put(196));
-    let r = event(r, 2, Event::Stop);
-    let r = event(r, 0, Event::Start);
-    let r = event(r, 0, Event::Put(32));
-    let r = event(r, 0, Event::Stop);
-    let r = event(r, 8, Event::Start);
-    let r = event(r, 8, Event::Put(32));
-    let r = event(r, 8, Event::Stop);
+    let r = message(event(r, 2, Event::Stop), 2, 196);
+    let r = message(message(r, 0, 32), 8, 32);
     let r = event(r, 9, Event::Start);
     let r = event(r, 10, Event::Start);
     event(r, 2, Event::Reset { dev: 0 });
-
-    // a device that listens with no message open, and an illegal control byte
     let listening = selected.devices;
+    line::text(b"one listening, ");
     event(idle(listening), 2, Event::Start);
-    let mut bad = driver;
-    bad.control = 32;
-    devices[0] = bad;
-    event(idle(devices), 2, Event::Start);
+}
+
+fn illegal_control(devices: [Device; 9]) {
+    let mut next = devices;
+    next[0].control = 0x20;
+    line::text(b"one illegal, ");
+    event(idle(next), 2, Event::Start);
+}
+
+fn main() {
+    let mut devices = [device::fresh(Chip::Pca9635, 16); 9];
+    devices[1] = device::fresh(Chip::Pca9531, 2);
+    waits();
+    rows(devices);
+    illegal_control(devices);
 }

@@ -1,13 +1,15 @@
--- The lent buffer of a read message: the tail that was lent is back, and what an accepted or a refused call leaves.
-use Prim.Native.Nat.{ℕ, _+_, _-_, _≤_}
+-- The lent buffer of a read message: the tail that was lent is back; what an accepted call may ask of its arguments; what an accepted or a refused one leaves.
+use Prim.Native.Nat.{ℕ, _+_, _-_, _≤_, _<_}
 use mathlib.Core.Path.{_≡_, refl}
-use mathlib.Core.Bool.{Bool, true, false, _||_}
+use mathlib.Core.Bool.{Bool, true, false, _||_, true≢false}
 use mathlib.Core.List.{List, _++_, append-assoc, append-nil}
 use native.Mathlib.Omega.{arith}
+use lib.Dec.{ltb, eqb}
 use lib.ListN.{length, take, drop, length-drop, drop-of-length-le}
 use lib.Seq.{take-all, drop-drop}
-use borrow.Author.Tests.{ltb-false, eq-eqb, ne-eqb}
+use borrow.Author.Tests.{ltb-false, eqb-false, eq-eqb, ne-eqb, not-false}
 use Rattle.bus.specs.Refusals.{codeOf}
+use Rattle.bus.specs.Bus.{busOk}
 use Rattle.bus.specs.laws.Refusals.{accepted}
 use Rattle.bus.specs.declared.Bus.{Bus}
 use Rattle.bus.specs.declared.Reply.{Reply}
@@ -19,16 +21,31 @@ tail-back l got part place n e =
     let k : length (drop place l) ≤ length l - place = rw length-drop (omega arith) in
     rw (e, take-all (length l - place) (drop place l) k, drop-of-length-le (drop place l) k, append-nil, drop-drop, append-assoc)
 
-or-left : (a b : Bool) → (a || b) ≡ false → a ≡ false
-or-left true b e = e
-or-left false b e = refl
+neither : (x y : Bool) → (x || y) ≡ false → (x ≡ false) × (y ≡ false)
+neither true y e = (e, absurd (true≢false e))
+neither false y e = (refl, e)
 
 module _ (b : Bus) (address control n place : ℕ) (l : List ℕ) where
-  -- what an accepted read message may ask of its arguments
-  pub read-fits : codeOf (readRefusals b address control n place (length l)) ≡ 0 → (address ≤ 127) × (place + n ≤ length l)
+  -- what holds where a read message is accepted
+  pub record ReadFits : Type 0 where
+    pub well : busOk b ≡ true
+    pub seven-bits : address ≤ 127
+    pub eight-bits : control ≤ 255
+    pub some : 0 < n
+    pub inside : place + n ≤ length l
+
+  pub read-fits : codeOf (readRefusals b address control n place (length l)) ≡ 0 → ReadFits
   read-fits e =
       let none = accepted 0 (readRefusals b address control n place (length l)) refl e in
-      (ltb-false 127 address (or-left _ _ (or-left _ _ (none .1 .1 .0))), ltb-false (length l) (place + n) (none .1 .1 .1 .0))
+      let numbers = neither (ltb 127 address || ltb 255 control) (eqb n 0) (none .1 .1 .0) in
+      let bytes = neither (ltb 127 address) (ltb 255 control) (numbers .0) in
+      record {
+        well = not-false (busOk b) (none .0);
+        seven-bits = ltb-false 127 address (bytes .0);
+        eight-bits = ltb-false 255 control (bytes .1);
+        some = omega (arith, eqb-false n 0 (numbers .1));
+        inside = ltb-false (length l) (place + n) (none .1 .1 .1 .0);
+      }
 
   pub buffer-stored : (r : Reply) → r ≡ readReply b address control n place (length l) → r .code ≡ 0 → stored b address control n place l ≡ bufferAfter b address control n place l
   unfolding bufferAfter

@@ -11,7 +11,8 @@ read-done-requires : tie.Need-read-done-requires
 read-done-requires c κs =
     let start = c .before .before .before .before in
     let a = start .args in
-    read-fits (a .bus) (a .address) (a .control) (a .n) (a .place) (a .buffer .now) (sym (c .before .before .read-code .ensures) ∙ c .before .if1 .taken)
+    let fits = read-fits (a .bus) (a .address) (a .control) (a .n) (a .place) (a .buffer .now) (sym (c .before .before .read-code .ensures) ∙ c .before .if1 .taken) in
+    (fits .seven-bits, fits .inside)
 
 returns : tie.Need-returns
 unfolding readReply
