@@ -1,3 +1,4 @@
+-- `bus::proved_callers::step_judged` meets its contract: an event is the call of its name.
 use Rattle.bus.specs.Events.{stepReply}
 use borrow.Author.Needs.{needs}
 use Rattle.bus.proofs.proved_callers.step_judged.Statement.{statement}

@@ -1,3 +1,4 @@
+-- `bus::time::is_too_long` meets its contract.
 use mathlib.Core.Path.{sym, _∙_}
 use borrow.Author.Needs.{needs}
 use Rattle.bus.proofs.time.is_too_long.Statement.{statement}

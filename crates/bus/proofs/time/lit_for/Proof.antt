@@ -1,3 +1,4 @@
+-- `bus::time::lit_for` meets its contract: by its code, the lit count or a refusal; an output that the chip has fits a byte.
 use mathlib.Core.Path.{refl, sym, _∙_}
 use Rattle.bus.specs.laws.Refusals.{accepted}
 use native.Mathlib.Omega.{arith}

@@ -1,3 +1,4 @@
+-- `bus::time::wait_for` meets its contract: by its code, the device after the wait or a refusal.
 use Rattle.bus.specs.laws.Replies.{answered, turned-away}
 use Rattle.bus.specs.Units.{waitForReply}
 use borrow.Author.Needs.{needs}
