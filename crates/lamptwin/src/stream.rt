@@ -104,12 +104,12 @@ fn feed(s: Stream, input: Input, buf: &mut [u8], out: &mut [u8]) -> Stream
     let d = drain(before, &buf[0..end], out);
     let read = d.read;
     let have = keep(buf, read, end);
-    let output = d.output;
-    let status = status_after(output, Status::Open);
+    let after = d.output;
+    let status = status_after(after, Status::Open);
     Stream {
         have,
         input,
-        output,
+        output: after,
         status,
     }
 }
