@@ -17,7 +17,7 @@ use Rattle.script.specs.laws.Lines.{free, free-end, free-take}
 use Rattle.script.specs.laws.Run.{after-both, answers-both}
 use Rattle.script.specs.laws.Stream.{truncated-answers}
 use Rattle.script.specs.declared.batch.State.{State}
-use Rattle.lamptwin.specs.Stream.{Receives, Drains, Kept, StandsFor, Holds, Unfinished, Goes, Feeds, Finishes, Turns, Waits, begun, goesOn, isOpen}
+use Rattle.lamptwin.specs.Stream.{Receives, Drains, Kept, StandsFor, Holds, Unfinished, Goes, Feeds, Finishes, Turns, Waits, Ends, begun, goesOn, isOpen}
 use Rattle.lamptwin.specs.declared.input.Input.{Input}
 use Rattle.lamptwin.specs.declared.output.Output.{Output}
 use Rattle.lamptwin.specs.declared.stream.Drained.{Drained}
@@ -128,15 +128,15 @@ last-ended : (p : List ℕ) → (length p ≡ 0 → ⊥) → length p ≤ endOf 
 last-ended [] n h = absurd (n refl)
 last-ended (b ∷ p) n h = last-line b p h
 
-pub finished-none : (s : Stream) (input : Input) (buf : List ℕ) → input .read ≡ s .input .read → s .have ≡ 0 → Finishes s buf (record { have = s .have; input = input; output = s .output; status = Ended }) buf
+pub finished-none : (s : Stream) (input : Input) (buf : List ℕ) → Ends s input → s .have ≡ 0 → Finishes s buf (record { have = s .have; input = input; output = s .output; status = Ended }) buf
 unfolding linesOf after answers
 finished-none s input buf g e =
     record {
-      goes = record { written = []; read-is = omega arith; sent-is = omega arith; holds = rw e (record { state-is = refl; written-is = refl }); kept = λ o. absurd (not-open false o) };
+      goes = record { written = []; read-is = omega (arith, g .none); sent-is = omega arith; holds = rw e (record { state-is = refl; written-is = refl }, g .ended); kept = λ o. absurd (not-open false o) };
       over = not-open false;
     }
 
-pub finished : (s : Stream) (input : Input) (buf new part : List ℕ) (d : Drained) (status : Status) → input .read ≡ s .input .read → Unfinished s buf → (s .have ≡ 0 → ⊥) → s .have < length buf
+pub finished : (s : Stream) (input : Input) (buf new part : List ℕ) (d : Drained) (status : Status) → Ends s input → Unfinished s buf → (s .have ≡ 0 → ⊥) → s .have < length buf
     → part ≡ take (s .have + 1 - 0) (set buf (s .have) 10) → Drains (s .output) part d → status ≡ cond (d .output .failed) Failed Ended
     → Finishes s buf (record { have = 0; input = input; output = d .output; status = status }) new
 finished s input buf new part d status g u n h e a q =
@@ -152,10 +152,10 @@ finished s input buf new part d status g u n h e a q =
     record {
       goes = record {
         written = answers (s .output .state) (linesOf (take (d .read) (last ++ (10 ∷ []))));
-        read-is = omega arith;
+        read-is = omega (arith, g .none);
         sent-is = b .reached .sent-is;
         holds = holds-if (d .output .failed) Ended status (s .output .state) _ _ r _ q refl
-            (λ f. record { state-is = b .reached .state-is ∙ ap (after (s .output .state)) (lines f); written-is = ap (answers (s .output .state)) (lines f) });
+            (λ f. (record { state-is = b .reached .state-is ∙ ap (after (s .output .state)) (lines f); written-is = ap (answers (s .output .state)) (lines f) }, g .ended));
         kept = λ o. absurd (not-open (d .output .failed) (sym q ∙ o));
       };
       over = λ o. not-open (d .output .failed) (sym q ∙ o);
@@ -179,10 +179,11 @@ module _ (s : Stream) (input : Input) (buf mid : List ℕ) (g : Receives (s .inp
   pub turn-fed : (r : Stream) (new : List ℕ) → Feeds s (input .read - s .input .read) mid r new → Turns s buf r new
   turn-fed r new f = turned r new (f .goes)
 
-  pub turn-finished : (r : Stream) (new : List ℕ) → input .read - s .input .read ≡ 0 → Finishes s mid r new → Turns s buf r new
+  pub turn-finished : (r : Stream) (new : List ℕ) → Ends s input → Finishes s mid r new → Turns s buf r new
   turn-finished r new e f =
+      let n : input .read - s .input .read ≡ 0 = omega (arith, e .none) in
       let z : s .have + 0 ≡ s .have = omega arith in
-      turned r new (rw (e, z) (f .goes))
+      turned r new (rw (n, z) (f .goes))
 
   pub turn-failed : (have : ℕ) (new : List ℕ) → input .failed ≡ true → Turns s buf (record { have = have; input = input; output = s .output; status = Failed }) new
   turn-failed have new e = turned _ new (record { written = []; read-is = omega (arith, g .more); sent-is = omega arith; holds = inl e; kept = λ o. absurd (not-open true o) })
@@ -211,7 +212,7 @@ join Open first mid r text kept got w v left a b =
           ∙ rw (append-assoc kept got t, append-assoc text got t) (a .answered (got ++ t));
     }
 join Ended first mid r text kept got w v left a b =
-    record { state-is = b .state-is ∙ a .states got; written-is = ap (λ (x : List ℕ). w ++ x) (b .written-is) ∙ a .answered got }
+    (record { state-is = b .0 .state-is ∙ a .states got; written-is = ap (λ (x : List ℕ). w ++ x) (b .0 .written-is) ∙ a .answered got }, b .1)
 join Failed first mid r text kept got w v left a b = b
 
 pub turned-more : {a s r : Stream} {old buf new : List ℕ} → Turns a old s buf → s .status ≡ Open → Turns s buf r new → Turns a old r new
@@ -241,7 +242,7 @@ turned-place first s buf x o =
 pub goes-on : (s : Stream) → goesOn s ≡ true → (s .status ≡ Open) × (s .input .read < 2 ^ 56)
 goes-on s e = go (s .status) e
   where
-    go : (t : Status) → cond (isOpen t) (ltb (s .input .read) 72057594037927936) false ≡ true → (t ≡ Open) × (s .input .read < 2 ^ 56)
+    go : (t : Status) → cond (isOpen t) (ltb (s .input .read) (2 ^ 56)) false ≡ true → (t ≡ Open) × (s .input .read < 2 ^ 56)
     go Open q = (refl, ltb-true _ _ q)
     go Ended q = absurd (let z : _≡_ {A = ℕ} 0 1 = cc in omega arith)
     go Failed q = absurd (let z : _≡_ {A = ℕ} 0 1 = cc in omega arith)

@@ -19,11 +19,13 @@ use Rattle.lamptwin.specs.declared.stream.Status.the-variants.{Open, End
 -- ---- the input and the output
 
 abbrev pub nothingRead : Input
-nothingRead = record { read = 0; failed = false }
+nothingRead = record { read = 0; ended = false; failed = false }
 
--- the bytes read, if any, are behind the first `have`, which stay
+-- the bytes read are behind the first `have`, which stay; none at the end
 pub record Receives (i : Input) (have : ℕ) (old : List ℕ) (r : Input) (new : List ℕ) : Type 0 where
   pub more : i .read ≤ r .read
+  pub none : r .ended ≡ true → r .read ≡ i .read
+  pub some : r .failed ≡ false → r .ended ≡ false → i .read < r .read
   pub room : have + r .read ≤ i .read + length old
   pub kept : take have new ≡ take have old
 
@@ -67,10 +69,10 @@ pub record AllAnswered (first : State) (text written : List ℕ) (state : State)
   pub state-is : state ≡ after first (linesOf text)
   pub written-is : written ≡ answers first (linesOf text)
 
--- by the status
+-- by the status; that there is no more, or that a call failed, the input and the output say
 abbrev pub Holds : Status → State → List ℕ → List ℕ → Stream → List ℕ → Type 0
 Holds Open first text written r kept = StandsFor first text written (r .output .state) kept
-Holds Ended first text written r kept = AllAnswered first text written (r .output .state)
+Holds Ended first text written r kept = AllAnswered first text written (r .output .state) × (r .input .ended ≡ true)
 Holds Failed first text written r kept = (r .input .failed ≡ true) ⊎ (r .output .failed ≡ true)
 
 -- the bytes kept are of one line, whose end is still to come, and at most 81
@@ -112,6 +114,11 @@ pub record Reads (s : Stream) (i : Input) : Type 0 where
   pub more : s .input .read ≤ i .read
   pub room : s .have + i .read ≤ s .input .read + 65536
 
+-- nothing was read since, at the end of the input
+pub record Ends (s : Stream) (i : Input) : Type 0 where
+  pub ended : i .ended ≡ true
+  pub none : i .read ≡ s .input .read
+
 -- ---- a whole run
 
 -- nothing is read yet
@@ -125,7 +132,7 @@ isOpen Failed = false
 
 -- there is more to come, and less than 2^56 bytes are read
 abbrev pub goesOn : Stream → Bool
-goesOn s = cond (isOpen (s .status)) (ltb (s .input .read) 72057594037927936) false
+goesOn s = cond (isOpen (s .status)) (ltb (s .input .read) (2 ^ 56)) false
 
 -- a run is a long turn, up to the end of the input, a failed call or 2^56 bytes
 pub record Answers (first : State) (r : Stream) (buf : List ℕ) : Type 0 where

@@ -6,9 +6,10 @@ ghost use lib.Dec.{ltb};
 ghost use Rattle.lamptwin.specs.Stream.{nothingRead, Receives};
 use libc::STDIN_FILENO;
 
-// How many bytes were read, and whether a read failed. Only this module makes one.
+// How many bytes were read, and whether the last read found the end or failed. Only this module makes one.
 pub struct Input {
     read: usize,
+    ended: bool,
     failed: bool,
 }
 
@@ -17,8 +18,15 @@ pub fn unread() -> Input
 {
     Input {
         read: 0,
+        ended: false,
         failed: false,
     }
+}
+
+pub fn has_ended(input: Input) -> bool
+    ensures { λ r. ⌜ r ≡ input .ended ⌝ }
+{
+    input.ended
 }
 
 pub fn has_failed(input: Input) -> bool
@@ -47,13 +55,18 @@ pub fn receive(before: Input, have: usize, buf: &mut [u8]) -> Input
     ensures { λ r. ⌜ Receives before have (now (buf .entry)) r (now (buf .exit)) ⌝ }
 {
     let got = libc::read(STDIN_FILENO, &mut buf[have..]);
-    let failed = got < 0;
-    if failed {
-        os::fail(b"lamptwin: input");
-    }
     let n = io::count(got, &buf[have..]);
+    if got < 0 {
+        os::fail(b"lamptwin: input");
+        return Input {
+            read: before.read + n,
+            ended: false,
+            failed: true,
+        };
+    }
     Input {
         read: before.read + n,
-        failed,
+        ended: n == 0,
+        failed: false,
     }
 }

@@ -4,7 +4,7 @@ ghost use mathlib.Core.Bool.{cond};
 ghost use Prim.Native.Nat.{_+_, _-_, _*_, _^_, _<_, _≤_, min};
 ghost use lib.ListN.{length};
 ghost use Rattle.script.specs.Run.{freshState};
-ghost use Rattle.lamptwin.specs.Stream.{Drains, Kept, Waits, Reads, Feeds, Finishes, Turns, begun, goesOn, Answers};
+ghost use Rattle.lamptwin.specs.Stream.{Drains, Kept, Waits, Reads, Ends, Feeds, Finishes, Turns, begun, goesOn, Answers};
 use crate::input;
 use crate::input::Input;
 use crate::input::receive;
@@ -98,9 +98,9 @@ fn feed(s: Stream, input: Input, buf: &mut [u8], out: &mut [u8]) -> Stream
     requires { ⌜ Waits s (now buf) × Reads s input × (length (now buf) ≡ 65536) × (76 ≤ length (now out)) ⌝ }
     ensures { λ r. ⌜ Feeds s (input .read - s .input .read) (now (buf .entry)) r (now (buf .exit)) ⌝ }
 {
-    let first = s.input;
+    let earlier = s.input;
     let before = s.output;
-    let end = s.have + input::since(first, input);
+    let end = s.have + input::since(earlier, input);
     let d = drain(before, &buf[0..end], out);
     let read = d.read;
     let have = keep(buf, read, end);
@@ -116,7 +116,7 @@ fn feed(s: Stream, input: Input, buf: &mut [u8], out: &mut [u8]) -> Stream
 
 // The end of the input: a last line that lacks its line feed is answered as if it had one.
 fn finish(s: Stream, input: Input, buf: &mut [u8], out: &mut [u8]) -> Stream
-    requires { ⌜ Waits s (now buf) × (input .read ≡ s .input .read) × (length (now buf) ≡ 65536) × (76 ≤ length (now out)) ⌝ }
+    requires { ⌜ Waits s (now buf) × Ends s input × (length (now buf) ≡ 65536) × (76 ≤ length (now out)) ⌝ }
     ensures { λ r. ⌜ Finishes s (now (buf .entry)) r (now (buf .exit)) ⌝ }
 {
     let before = s.output;
@@ -159,7 +159,7 @@ fn take_turn(s: Stream, buf: &mut [u8], out: &mut [u8]) -> Stream
             status: Status::Failed,
         };
     }
-    if input::since(before, input) == 0 {
+    if input::has_ended(input) {
         return finish(s, input, buf, out);
     }
     feed(s, input, buf, out)

@@ -25,7 +25,7 @@ finish-requires c κs =
     let s = a .args .s in
     let m = g .receive .ensures in
     let t = c .before .before in
-    (waits-read s (g .receive .result) (now (a .args .buf)) _ m (b .buf .given) (a .pre .0), omega (arith, t .before .since .ensures, t .if2 .taken, m .more), omega (arith, a .pre .1, b .buf .given), search needs)
+    (waits-read s (g .receive .result) (now (a .args .buf)) _ m (b .buf .given) (a .pre .0), record { ended = sym (t .before .has-ended .ensures) ∙ t .if2 .taken; none = m .none (sym (t .before .has-ended .ensures) ∙ t .if2 .taken) }, omega (arith, a .pre .1, b .buf .given), search needs)
 
 returns-2 : tie.Need-returns-2
 returns-2 c =
@@ -36,7 +36,7 @@ returns-2 c =
     let s = a .args .s in
     let m = g .receive .ensures in
     let t = f .before .before .before in
-    (turn-finished s (g .receive .result) (now (a .args .buf)) _ m (b .buf .given) _ _ (sym (t .before .since .ensures) ∙ t .if2 .taken) (f .finish .ensures), λ o. absurd (f .finish .ensures .over o))
+    (turn-finished s (g .receive .result) (now (a .args .buf)) _ m (b .buf .given) _ _ (record { ended = sym (t .before .has-ended .ensures) ∙ t .if2 .taken; none = m .none (sym (t .before .has-ended .ensures) ∙ t .if2 .taken) }) (f .finish .ensures), λ o. absurd (f .finish .ensures .over o))
 
 feed-requires : tie.Need-feed-requires
 feed-requires c κs =
@@ -56,7 +56,8 @@ returns-3 c =
     let s = a .args .s in
     let m = g .receive .ensures in
     let t = f .before .before .before in
-    (turn-fed s (g .receive .result) (now (a .args .buf)) _ m (b .buf .given) _ _ (f .feed .ensures), λ o. omega (arith, f .feed .ensures .goes .read-is, t .before .since .ensures, t .if2 .left, m .more))
+    let h = t .before .before in
+    (turn-fed s (g .receive .result) (now (a .args .buf)) _ m (b .buf .given) _ _ (f .feed .ensures), λ o. omega (arith, f .feed .ensures .goes .read-is, m .more, m .some (sym (h .before .has-failed .ensures) ∙ h .if1 .left) (sym (t .before .has-ended .ensures) ∙ t .if2 .left)))
 
 pub take-turn-spec : {M : Type 1} → statement M
 take-turn-spec =
