@@ -1,41 +1,140 @@
 -- What is promised of a stream of lines through fixed buffers.
-use Prim.Native.Nat.{ℕ, _+_, _-_, _≤_, min}
+use Prim.Native.Nat.{ℕ, _+_, _-_, _*_, _^_, _≤_, _<_, min}
 use mathlib.Core.Path.{_≡_}
-use mathlib.Core.Bool.{true}
-use mathlib.Core.List.{List, _++_}
+use mathlib.Core.Bool.{Bool, true, false, cond}
+use mathlib.Core.List.{List, [], _++_}
+use mathlib.Core.Logic.{_⊎_}
 use lib.ListN.{length, take, drop}
+use lib.Dec.{ltb}
 use Rattle.script.specs.Lines.{linesOf, endOf, Whole}
-use Rattle.script.specs.Run.{after}
+use Rattle.script.specs.Run.{after, answers}
 use Rattle.script.specs.declared.batch.State.{State}
+use Rattle.lamptwin.specs.declared.input.Input.{Input}
+use Rattle.lamptwin.specs.declared.output.Output.{Output}
 use Rattle.lamptwin.specs.declared.stream.Drained.{Drained}
-use Rattle.lamptwin.specs.declared.stream.Turn.{Turn}
+use Rattle.lamptwin.specs.declared.stream.Stream.{Stream}
+use Rattle.lamptwin.specs.declared.stream.Status.{Status}
+use Rattle.lamptwin.specs.declared.stream.Status.the-variants.{Open, Ended, Failed}
 
--- from s on, the lines of the first `read` bytes are answered
-pub record Reached (s : State) (input : List ℕ) (read : ℕ) (state : State) : Type 0 where
-  pub within : read ≤ length input
-  pub whole : Whole (take read input)
-  pub state-is : state ≡ after s (linesOf (take read input))
+-- ---- the input and the output
 
--- the lines of what was read are answered, from s on; and if the output is open, no complete line is left
-pub record Drains (s : State) (input : List ℕ) (r : Drained) : Type 0 where
-  pub reached : Reached s input (r .read) (r .state)
-  pub stop : r .is_open ≡ true → length input ≤ r .read + endOf (drop (r .read) input)
+abbrev pub nothingRead : Input
+nothingRead = record { read = 0; ended = false; failed = false }
+
+-- the bytes read are behind the first `have`, which stay; none at the end
+pub record Receives (i : Input) (have : ℕ) (old : List ℕ) (r : Input) (new : List ℕ) : Type 0 where
+  pub more : i .read ≤ r .read
+  pub none : r .ended ≡ true → r .read ≡ i .read
+  pub some : r .failed ≡ false → r .ended ≡ false → i .read < r .read
+  pub room : have + r .read ≤ i .read + length old
+  pub kept : take have new ≡ take have old
+
+abbrev pub nothingSent : State → Output
+nothingSent first = record { state = first; sent = 0; failed = false }
+
+-- what is handed over are the answers to some lines, from where the output is
+pub record Sends (o : Output) (lines text : List ℕ) (next : State) : Type 0 where
+  pub text-is : text ≡ answers (o .state) (linesOf lines)
+  pub next-is : next ≡ after (o .state) (linesOf lines)
+  pub room : o .sent + length text < 2 ^ 64
+
+-- ---- lines in a buffer
+
+-- from o on, the answers to the lines of the first `read` bytes are handed over
+pub record Reached (o : Output) (text : List ℕ) (read : ℕ) (r : Output) : Type 0 where
+  pub within : read ≤ length text
+  pub whole : Whole (take read text)
+  pub state-is : r .state ≡ after (o .state) (linesOf (take read text))
+  pub sent-is : r .sent ≡ o .sent + length (answers (o .state) (linesOf (take read text)))
+
+-- so it is with what was read; and if no write failed, no complete line is left
+pub record Drains (o : Output) (text : List ℕ) (r : Drained) : Type 0 where
+  pub reached : Reached o text (r .read) (r .output)
+  pub stop : r .output .failed ≡ false → length text ≤ r .read + endOf (drop (r .read) text)
 
 -- the first r bytes are those from `from` up to `end`, or the first 81 of them
 pub record Kept (old : List ℕ) (from end : ℕ) (new : List ℕ) (r : ℕ) : Type 0 where
   pub count : r ≡ min 81 (end - from)
   pub text : take r new ≡ take r (drop from old)
 
--- the first n bytes are of one line, whose end is still to come
-abbrev pub Unfinished : List ℕ → ℕ → Type 0
-Unfinished buf n = n ≤ endOf (take n buf)
+-- ---- a stream
 
--- the state and the bytes kept stand for the state and the bytes before: whatever comes, the end is the same
-pub record Fed (s : State) (input new : List ℕ) (r : Turn) : Type 0 where
-  pub few : r .have ≤ 81
-  pub unfinished : r .is_open ≡ true → Unfinished new (r .have)
-  pub same : r .is_open ≡ true → (t : List ℕ) → after (r .state) (linesOf (take (r .have) new ++ t)) ≡ after s (linesOf (input ++ t))
+-- `text` is read from `first` on, and `written` handed over: whatever comes, the state and the bytes kept lead to the same state, and to the answers that are left
+pub record StandsFor (first : State) (text written : List ℕ) (state : State) (kept : List ℕ) : Type 0 where
+  pub states : (t : List ℕ) → after state (linesOf (kept ++ t)) ≡ after first (linesOf (text ++ t))
+  pub answered : (t : List ℕ) → written ++ answers state (linesOf (kept ++ t)) ≡ answers first (linesOf (text ++ t))
 
--- the line that is left at the end of the input is answered, if the output stays open
-pub record Finishes (s : State) (left : List ℕ) (r : Drained) : Type 0 where
-  pub state-is : r .is_open ≡ true → r .state ≡ after s (linesOf left)
+-- every line of `text` is answered, the last one too
+pub record AllAnswered (first : State) (text written : List ℕ) (state : State) : Type 0 where
+  pub state-is : state ≡ after first (linesOf text)
+  pub written-is : written ≡ answers first (linesOf text)
+
+-- by the status; that there is no more, or that a call failed, the input and the output say
+abbrev pub Holds : Status → State → List ℕ → List ℕ → Stream → List ℕ → Type 0
+Holds Open first text written r kept = StandsFor first text written (r .output .state) kept
+Holds Ended first text written r kept = AllAnswered first text written (r .output .state) × (r .input .ended ≡ true)
+Holds Failed first text written r kept = (r .input .failed ≡ true) ⊎ (r .output .failed ≡ true)
+
+-- the bytes kept are of one line, whose end is still to come, and at most 81
+pub record Unfinished (s : Stream) (buf : List ℕ) : Type 0 where
+  pub few : s .have ≤ 81
+  pub begun : s .have ≤ endOf (take (s .have) buf)
+
+-- from s on, where `text` is the bytes kept and `more` read behind them, and `written` is handed over since
+pub record Goes (s : Stream) (text : List ℕ) (more : ℕ) (r : Stream) (buf : List ℕ) : Type 0 where
+  pub written : List ℕ
+  pub read-is : r .input .read ≡ s .input .read + more
+  pub sent-is : r .output .sent ≡ s .output .sent + length written
+  pub holds : Holds (r .status) (s .output .state) text written r (take (r .have) buf)
+  pub kept : r .status ≡ Open → Unfinished r buf
+
+-- n bytes more, behind the bytes kept: that is no end
+pub record Feeds (s : Stream) (n : ℕ) (old : List ℕ) (r : Stream) (new : List ℕ) : Type 0 where
+  pub goes : Goes s (take (s .have + n) old) n r new
+  pub on : r .status ≡ Ended → ⊥
+
+-- the bytes kept are all that is left
+pub record Finishes (s : Stream) (old : List ℕ) (r : Stream) (new : List ℕ) : Type 0 where
+  pub goes : Goes s (take (s .have) old) 0 r new
+  pub over : r .status ≡ Open → ⊥
+
+-- some bytes are read behind the bytes kept
+pub record Turns (s : Stream) (old : List ℕ) (r : Stream) (new : List ℕ) : Type 0 where
+  pub got : List ℕ
+  pub goes : Goes s (take (s .have) old ++ got) (length got) r new
+
+-- what a turn asks: one line at most, unfinished, and counts that do not wrap
+pub record Waits (s : Stream) (buf : List ℕ) : Type 0 where
+  pub kept : Unfinished s buf
+  pub short : s .input .read < 2 ^ 56
+  pub place : s .output .sent ≤ 76 * s .input .read
+
+-- what was read since fits behind the bytes kept
+pub record Reads (s : Stream) (i : Input) : Type 0 where
+  pub more : s .input .read ≤ i .read
+  pub room : s .have + i .read ≤ s .input .read + 65536
+
+-- nothing was read since, at the end of the input
+pub record Ends (s : Stream) (i : Input) : Type 0 where
+  pub ended : i .ended ≡ true
+  pub none : i .read ≡ s .input .read
+
+-- ---- a whole run
+
+-- nothing is read yet
+abbrev pub begun : State → Stream
+begun first = record { have = 0; input = nothingRead; output = nothingSent first; status = Open }
+
+abbrev pub isOpen : Status → Bool
+isOpen Open = true
+isOpen Ended = false
+isOpen Failed = false
+
+-- there is more to come, and less than 2^56 bytes are read
+abbrev pub goesOn : Stream → Bool
+goesOn s = cond (isOpen (s .status)) (ltb (s .input .read) (2 ^ 56)) false
+
+-- a run is a long turn, up to the end of the input, a failed call or 2^56 bytes
+pub record Answers (first : State) (r : Stream) (buf : List ℕ) : Type 0 where
+  pub turns : Turns (begun first) [] r buf
+  pub over : r .status ≡ Open → 2 ^ 56 ≤ r .input .read

@@ -1,59 +1,66 @@
 // A stream of lines through fixed buffers.
 ghost use mathlib.Core.Path.{_≡_};
-ghost use mathlib.Core.Bool.{true};
-ghost use Prim.Native.Nat.{_<_, _≤_, min};
-ghost use lib.ListN.{length, take};
-ghost use Rattle.lamptwin.specs.Stream.{Drains, Kept, Unfinished, Fed, Finishes};
-use libc::STDIN_FILENO;
-use libc::STDOUT_FILENO;
+ghost use mathlib.Core.Bool.{cond};
+ghost use Prim.Native.Nat.{_+_, _-_, _*_, _^_, _<_, _≤_, min};
+ghost use lib.ListN.{length};
+ghost use Rattle.script.specs.Run.{freshState};
+ghost use Rattle.lamptwin.specs.Stream.{Drains, Kept, Waits, Reads, Ends, Feeds, Finishes, Turns, begun, goesOn, Answers};
+use crate::input;
+use crate::input::Input;
+use crate::input::receive;
+use crate::output;
+use crate::output::Output;
+use crate::output::hand_over;
 use script::State;
 
-// After one read: how many bytes wait at the start of the buffer for the rest of their line, and whether to go on.
-pub struct Turn {
-    pub state: State,
+// A proved loop has to end, and nothing says that an input does: it ends after 2^56 bytes, more than any run reads. So no count wraps.
+const MOST: usize = 72057594037927936;
+
+// Whether there is more to come, all is answered, or a read or a write failed.
+pub enum Status {
+    Open,
+    Ended,
+    Failed,
+}
+
+// What is carried from read to read. The first `have` bytes of the buffer wait for the rest of their line.
+pub struct Stream {
     pub have: usize,
-    pub is_open: bool,
+    pub input: Input,
+    pub output: Output,
+    pub status: Status,
 }
 
-// How far the lines are answered, and whether the output took the answers.
+// How far the lines are answered.
 pub struct Drained {
-    pub state: State,
     pub read: usize,
-    pub is_open: bool,
+    pub output: Output,
 }
 
-// Answers every complete line of input.
-fn drain(first: State, input: &[u8], out: &mut [u8]) -> Drained
-    requires { ⌜ 76 ≤ length (now out) ⌝ }
-    ensures { λ r. ⌜ Drains first (now (input .entry)) r ⌝ }
+// Answers every complete line of text.
+fn drain(before: Output, text: &[u8], out: &mut [u8]) -> Drained
+    requires { ⌜ (76 ≤ length (now out)) × (before .sent + 76 * length (now text) < 2 ^ 64) ⌝ }
+    ensures { λ r. ⌜ Drains before (now (text .entry)) r ⌝ }
 {
-    let mut state = first;
+    let mut output = before;
     let mut from: usize = 0;
-    while from < input.len() {
-        let r = script::run(state, &input[from..], out);
-        state = r.state;
-        if r.read == 0 {
-            return Drained {
-                state,
-                read: from,
-                is_open: true,
-            };
+    while from < text.len() {
+        let state = output::state_of(output);
+        let r = script::run(state, &text[from..], out);
+        let read = r.read;
+        if read == 0 {
+            return Drained { read: from, output };
         }
-        from += r.read;
+        let upto = from + read;
         let wrote = r.wrote;
-        if !io::write_all(STDOUT_FILENO, &out[0..wrote]) {
-            return Drained {
-                state,
-                read: from,
-                is_open: false,
-            };
+        let next = r.state;
+        output = hand_over(output, &text[from..upto], &out[0..wrote], next);
+        from = upto;
+        if output::has_failed(output) {
+            return Drained { read: from, output };
         }
     }
-    Drained {
-        state,
-        read: from,
-        is_open: true,
-    }
+    Drained { read: from, output }
 }
 
 fn least(a: usize, b: usize) -> usize
@@ -76,52 +83,130 @@ fn keep(buf: &mut [u8], from: usize, end: usize) -> usize
     i
 }
 
-// The end of the input: a last line that lacks its line feed is answered as if it had one.
-fn finish(state: State, have: usize, buf: &mut [u8], out: &mut [u8]) -> Drained
-    requires { ⌜ Unfinished (now buf) have × (have < length (now buf)) × (76 ≤ length (now out)) ⌝ }
-    ensures { λ r. ⌜ Finishes state (take have (now (buf .entry))) r ⌝ }
+fn status_after(output: Output, status: Status) -> Status
+    ensures { λ r. ⌜ r ≡ cond (output .failed) Status.Failed status ⌝ }
 {
+    if output::has_failed(output) {
+        Status::Failed
+    } else {
+        status
+    }
+}
+
+// Answers each line that is complete in the bytes kept and those read behind them. What is kept then, with what is to come, stands for them.
+fn feed(s: Stream, input: Input, buf: &mut [u8], out: &mut [u8]) -> Stream
+    requires { ⌜ Waits s (now buf) × Reads s input × (length (now buf) ≡ 65536) × (76 ≤ length (now out)) ⌝ }
+    ensures { λ r. ⌜ Feeds s (input .read - s .input .read) (now (buf .entry)) r (now (buf .exit)) ⌝ }
+{
+    let earlier = s.input;
+    let before = s.output;
+    let end = s.have + input::since(earlier, input);
+    let d = drain(before, &buf[0..end], out);
+    let read = d.read;
+    let have = keep(buf, read, end);
+    let after = d.output;
+    let status = status_after(after, Status::Open);
+    Stream {
+        have,
+        input,
+        output: after,
+        status,
+    }
+}
+
+// The end of the input: a last line that lacks its line feed is answered as if it had one.
+fn finish(s: Stream, input: Input, buf: &mut [u8], out: &mut [u8]) -> Stream
+    requires { ⌜ Waits s (now buf) × Ends s input × (length (now buf) ≡ 65536) × (76 ≤ length (now out)) ⌝ }
+    ensures { λ r. ⌜ Finishes s (now (buf .entry)) r (now (buf .exit)) ⌝ }
+{
+    let before = s.output;
+    let have = s.have;
     if have == 0 {
-        return Drained {
-            state,
-            read: 0,
-            is_open: true,
+        return Stream {
+            have,
+            input,
+            output: before,
+            status: Status::Ended,
         };
     }
     buf[have] = 10;
-    drain(state, &buf[0..have + 1], out)
-}
-
-// Answers each line that is complete in the first `end` bytes. What is kept, with what is to come, stands for all of them.
-fn feed(state: State, end: usize, buf: &mut [u8], out: &mut [u8]) -> Turn
-    requires { ⌜ (end ≤ length (now buf)) × (76 ≤ length (now out)) ⌝ }
-    ensures { λ r. ⌜ Fed state (take end (now (buf .entry))) (now (buf .exit)) r ⌝ }
-{
-    let d = drain(state, &buf[0..end], out);
-    let read = d.read;
-    let kept = keep(buf, read, end);
-    let next = d.state;
-    Turn {
-        state: next,
-        have: kept,
-        is_open: d.is_open,
+    let d = drain(before, &buf[0..have + 1], out);
+    let output = d.output;
+    let status = status_after(output, Status::Ended);
+    Stream {
+        have: 0,
+        input,
+        output,
+        status,
     }
 }
 
-// Reads once, and answers each line that is complete.
-pub fn take_turn(state: State, have: usize, buf: &mut [u8], out: &mut [u8]) -> Turn
-    requires { ⌜ Unfinished (now buf) have × (have ≤ 81) × (81 < length (now buf)) × (76 ≤ length (now out)) ⌝ }
-    ensures { λ r. ⌜ (r .is_open ≡ true → Unfinished (now (buf .exit)) (r .have)) × (r .have ≤ 81) ⌝ }
+// Reads once, and answers each line that is complete; at the end of the input, the last line. A read that fails is no end.
+fn take_turn(s: Stream, buf: &mut [u8], out: &mut [u8]) -> Stream
+    requires { ⌜ Waits s (now buf) × (length (now buf) ≡ 65536) × (76 ≤ length (now out)) ⌝ }
+    ensures { λ r. ⌜ Turns s (now (buf .entry)) r (now (buf .exit)) ⌝ }
+    ensures { λ r. ⌜ (r .status ≡ Status.Open → s .input .read < r .input .read) ⌝ }
 {
-    let got = libc::read(STDIN_FILENO, &mut buf[have..]);
-    let n = io::count(got, &buf[have..]);
-    if n == 0 {
-        finish(state, have, buf, out);
-        return Turn {
-            state,
-            have: 0,
-            is_open: false,
+    let have = s.have;
+    let before = s.input;
+    let input = receive(before, have, buf);
+    if input::has_failed(input) {
+        let output = s.output;
+        return Stream {
+            have,
+            input,
+            output,
+            status: Status::Failed,
         };
     }
-    feed(state, have + n, buf, out)
+    if input::has_ended(input) {
+        return finish(s, input, buf, out);
+    }
+    feed(s, input, buf, out)
+}
+
+fn begin(first: State) -> Stream
+    ensures { λ r. ⌜ r ≡ begun first ⌝ }
+{
+    let input = input::unread();
+    let output = output::untouched(first);
+    Stream {
+        have: 0,
+        input,
+        output,
+        status: Status::Open,
+    }
+}
+
+fn goes_on(s: Stream) -> bool
+    ensures { λ r. ⌜ r ≡ goesOn s ⌝ }
+{
+    let status = s.status;
+    let input = s.input;
+    match status {
+        Status::Open => input::has_less(input, MOST),
+        Status::Ended => false,
+        Status::Failed => false,
+    }
+}
+
+// Reads and answers, from the state first on, up to the end of the input or a failed call.
+fn answer_from(first: State, buf: &mut [u8], out: &mut [u8]) -> Stream
+    requires { ⌜ (length (now buf) ≡ 65536) × (76 ≤ length (now out)) ⌝ }
+    ensures { λ r. ⌜ Answers first r (now (buf .exit)) ⌝ }
+{
+    let mut s = begin(first);
+    while goes_on(s) {
+        s = take_turn(s, buf, out);
+    }
+    s
+}
+
+// From an empty bus on.
+pub fn answer_all(buf: &mut [u8], out: &mut [u8]) -> Stream
+    requires { ⌜ (length (now buf) ≡ 65536) × (76 ≤ length (now out)) ⌝ }
+    ensures { λ r. ⌜ Answers freshState r (now (buf .exit)) ⌝ }
+{
+    let first = script::fresh();
+    answer_from(first, buf, out)
 }

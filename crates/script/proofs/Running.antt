@@ -14,6 +14,7 @@ use Rattle.script.specs.laws.Decimal.{holds, fails, tested}
 use Rattle.script.specs.Lines.{linesOf, endOf, onto, Whole}
 use Rattle.script.specs.AnswerLine.{answerLine, placed, Written}
 use Rattle.script.specs.Run.{replyTo, nextNumber, afterLine, answerTo, answers, after, Did, ranTo, Runs}
+use Rattle.script.specs.laws.Run.{answers-more, after-more}
 use Rattle.script.specs.declared.batch.State.{State}
 use Rattle.script.specs.declared.batch.Ran.{Ran}
 use Rattle.bus.specs.declared.Bus.{Bus}
@@ -43,16 +44,6 @@ first-line (b ∷ l) t h =
       | holds e ↦ rw (e)
       | fails e ↦ rw (e) (ap (onto b) (first-line l t (le-of-suc-le-suc (rw e at h))))
     ]
-
-pub answers-more : (s : State) (ls : List (List ℕ)) (l : List ℕ) → answers s (ls ++ (l ∷ [])) ≡ answers s ls ++ answerTo (after s ls) l
-unfolding answers after
-answers-more s [] l = append-nil _
-answers-more s (k ∷ ls) l = ap (λ (t : List ℕ). answerTo s k ++ t) (answers-more (afterLine s k) ls l) ∙ sym (append-assoc (answerTo s k) _ _)
-
-after-more : (s : State) (ls : List (List ℕ)) (l : List ℕ) → after s (ls ++ (l ∷ [])) ≡ afterLine (after s ls) l
-unfolding after
-after-more s [] l = refl
-after-more s (k ∷ ls) l = after-more (afterLine s k) ls l
 
 pub did-none : (s : State) (input old : List ℕ) → Did s input old old 0 0 s
 unfolding linesOf answers after placed

@@ -12,6 +12,7 @@ use lib.Seq.{drop-cons, take-all}
 use lib.Dec.{eqb}
 use Rattle.script.specs.laws.Decimal.{holds, fails, tested}
 use Rattle.script.specs.laws.Lines.{one-line, some-line}
+use Rattle.script.specs.laws.Run.{answers-more}
 use Rattle.script.specs.Lines.{linesOf, endOf, onto}
 use Rattle.script.specs.AnswerLine.{Written}
 use Rattle.script.specs.Run.{freshState, answerTo, Runs}
@@ -19,7 +20,6 @@ use Rattle.script.specs.Log.{logAnswers, hasRoom, RunsLog}
 use Rattle.script.specs.Promises.{answers-room}
 use Rattle.script.specs.declared.batch.Ran.{Ran}
 use Rattle.script.proofs.Buffer.{write-length, then}
-use Rattle.script.proofs.Running.{answers-more}
 
 -- the lines in what is left of a log, where begun is 1 if a line has begun
 unfoldable pub countFrom : ℕ → List ℕ → ℕ

@@ -1,4 +1,5 @@
 pub mod Decimal
 pub mod Field
 pub mod Lines
+pub mod Run
 pub mod Stream

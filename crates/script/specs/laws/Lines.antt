@@ -1,5 +1,5 @@
 -- Laws of the lines of an input: bytes without a line feed are the start of its first line.
-use Prim.Native.Nat.{ℕ, zero, suc, _≤_}
+use Prim.Native.Nat.{ℕ, zero, suc, _+_, _≤_}
 use mathlib.Core.Path.{_≡_, refl, sym, ap, _∙_}
 use mathlib.Core.Bool.{false}
 use mathlib.Core.List.{List, [], _∷_, _++_, append-nil}
@@ -72,3 +72,17 @@ some-line b p =
     put-some : (x : ℕ) (ls : List (List ℕ)) → 1 ≤ length (onto x ls)
     put-some x [] = omega arith
     put-some x (l ∷ ls) = omega arith
+
+-- a line has a byte at least, its line feed
+pub few-lines : (s : List ℕ) → length (linesOf s) ≤ length s
+unfolding linesOf
+few-lines [] = omega arith
+few-lines (b ∷ s) =
+    elim (tested (eqb b 10)) [
+      | holds e ↦ rw e (omega (arith, few-lines s))
+      | fails e ↦ rw e (omega (arith, few-lines s, put-few b (linesOf s)))
+    ]
+  where
+    put-few : (x : ℕ) (ls : List (List ℕ)) → length (onto x ls) ≤ 1 + length ls
+    put-few x [] = omega arith
+    put-few x (l ∷ ls) = omega arith

@@ -1,4 +1,5 @@
-use Rattle.lamptwin.proofs.Lines.{reached-none, reached-more, reached-same, none-left}
+-- `drain`: what is handed over so far are the answers to the lines so far; each batch goes on from there.
+use Rattle.lamptwin.proofs.Lines.{reached-none, reached-more, sends-batch, none-left}
 use Rattle.lamptwin.specs.Stream.{Reached}
 use denote.Ref.{now}
 use native.Mathlib.Omega.{arith}
@@ -10,22 +11,47 @@ use Rattle.lamptwin.proofs.stream.drain.Statement.{statement}
 use Rattle.lamptwin.proofs.stream.drain.Tie as tie
 
 abbrev Inv-loop : tie.InvT-loop
-Inv-loop input out₀ state₀ from₀ out state from = Reached state₀ input from state × (length out ≡ length out₀)
+Inv-loop text out₀ output₀ from₀ out output from = Reached output₀ text from output × (length out ≡ length out₀)
 
 abbrev μ-loop : tie.MeasureT-loop
-μ-loop input out₀ state₀ from₀ out state from = length input - from
+μ-loop text out₀ output₀ from₀ out output from = length text - from
 
 loop-holds : tie.Need-loop-holds Inv-loop μ-loop
-loop-holds c = let a = c .before .before in (reached-none (a .args .first) (now (a .args .input)), search needs)
+loop-holds c = let a = c .before .before in (reached-none (a .args .before) (now (a .args .text)), search needs)
 
 returns : tie.Need-returns Inv-loop μ-loop
-returns c = let u = c .before .before .before .before .before in let l = u .before .before .before .before in let a = l .before .before .before in record { reached = reached-same (a .args .first) (now (a .args .input)) (l .loop .from) (l .loop .state) (l .loop .inv .0) (l .loop .out) _ _ (u .run .result) refl (u .run .ensures) (c .if1 .taken); stop = λ w. none-left (a .args .first) (now (a .args .input)) (l .loop .from) (l .loop .state) (l .loop .inv .0) (l .loop .out) _ _ (u .run .result) refl (u .run .ensures) (c .if1 .taken) (omega arith) }
+returns c =
+    let u = c .before .before .before in
+    let l = u .before .before .before .before .before in
+    let v = u .before .before .before .state-of in
+    let a = l .before .before .before in
+    record { reached = l .loop .inv .0; stop = λ w. none-left (a .args .before) (now (a .args .text)) (l .loop .from) (l .loop .output) (l .loop .inv .0) (v .result) (v .ensures) (l .loop .out) _ _ (u .run .result) refl (u .run .ensures) (c .if1 .taken) (omega arith) }
+
+hand-over-requires : tie.Need-hand-over-requires Inv-loop μ-loop
+hand-over-requires c κs =
+    let u = c .before .before .before .before .before .before .before in
+    let l = u .before .before .before .before .before in
+    let v = u .before .before .before .state-of in
+    let a = l .before .before .before in
+    sends-batch (a .args .before) (now (a .args .text)) (l .loop .from) (l .loop .output) (l .loop .inv .0) (v .result) (v .ensures) (l .loop .out) _ _ (u .run .result) refl (u .run .ensures) (a .pre .1)
 
 returns-2 : tie.Need-returns-2 Inv-loop μ-loop
-returns-2 c = let u = c .before .before .before .before .before .before .before .before .before .before in let l = u .before .before .before .before in let a = l .before .before .before in record { reached = reached-more (a .args .first) (now (a .args .input)) (l .loop .from) (l .loop .state) (l .loop .inv .0) (l .loop .out) _ _ (u .run .result) refl (u .run .ensures); stop = λ w. absurd (let z : _≡_ {A = ℕ} 0 1 = cc in omega arith) }
+returns-2 c =
+    let h = c .before .before in
+    let u = h .before .before .before .before .before .before .before .before in
+    let l = u .before .before .before .before .before in
+    let v = u .before .before .before .state-of in
+    let a = l .before .before .before in
+    record { reached = reached-more (a .args .before) (now (a .args .text)) (l .loop .from) (l .loop .output) (l .loop .inv .0) (v .result) (v .ensures) (l .loop .out) _ _ (u .run .result) refl (u .run .ensures) (h .hand-over .result) (h .hand-over .ensures); stop = λ w. absurd (let z : _≡_ {A = ℕ} 0 1 = cc in omega arith) }
 
 loop-again : tie.Need-loop-again Inv-loop μ-loop
-loop-again c = let u = c .before .before .before .before .before .before .before .before .before .before in let l = u .before .before .before .before in let a = l .before .before .before in (reached-more (a .args .first) (now (a .args .input)) (l .loop .from) (l .loop .state) (l .loop .inv .0) (l .loop .out) _ _ (u .run .result) refl (u .run .ensures), search needs)
+loop-again c =
+    let h = c .before .before in
+    let u = h .before .before .before .before .before .before .before .before in
+    let l = u .before .before .before .before .before in
+    let v = u .before .before .before .state-of in
+    let a = l .before .before .before in
+    (reached-more (a .args .before) (now (a .args .text)) (l .loop .from) (l .loop .output) (l .loop .inv .0) (v .result) (v .ensures) (l .loop .out) _ _ (u .run .result) refl (u .run .ensures) (h .hand-over .result) (h .hand-over .ensures), search needs)
 
 returns-3 : tie.Need-returns-3 Inv-loop μ-loop
 returns-3 c = let l = c .before in record { reached = l .loop .inv .0; stop = λ w. omega arith }
@@ -37,6 +63,7 @@ drain-spec =
     Inv-loop
     μ-loop
     loop-holds
+    (λ c κs. search needs)
     (λ c. search needs)
     (λ c. search needs)
     (λ c. search needs)
@@ -47,6 +74,10 @@ drain-spec =
     (λ c. search needs)
     (λ c. search needs)
     (λ c. search needs)
+    (λ c. search needs)
+    (λ c. search needs)
+    (λ c. search needs)
+    hand-over-requires
     (λ c κs. search needs)
     (λ c. search needs)
     returns-2

@@ -1,20 +1,25 @@
-use Rattle.lamptwin.proofs.Lines.{finished-none, finished}
-use denote.Ref.{now}
-use native.Mathlib.Omega.{arith}
+-- `finish`: the line feed that the last line lacks makes it complete.
+use Rattle.lamptwin.proofs.Turns.{finished-none, finished}
 use mathlib.Core.Path.{refl}
 use lib.ListN.{length-set}
+use denote.Ref.{now}
+use native.Mathlib.Omega.{arith}
 use borrow.Author.Needs.{needs}
 use Rattle.lamptwin.proofs.stream.finish.Statement.{statement}
 use Rattle.lamptwin.proofs.stream.finish.Tie as tie
 
 returns : tie.Need-returns
-returns c = let a = c .before .before .before in finished-none (a .args .state) (now (a .args .buf)) (a .args .have) (c .if1 .taken)
+returns c = let a = c .before .before .before .before in finished-none (a .args .s) (a .args .input) (now (a .args .buf)) (a .pre .1) (c .if1 .taken)
 
 part-drain-end : tie.Need-part-drain-end
 part-drain-end c = simp length-set (omega arith)
 
 returns-2 : tie.Need-returns-2
-returns-2 c = let d = c .before .before in let e = d .before .before .before .before in let a = e .before .before .before in finished (a .args .state) (now (a .args .buf)) _ (a .args .have) (d .drain .result) (a .pre .0) (e .if1 .left) (a .pre .1) refl (d .drain .ensures)
+returns-2 c =
+    let d = c .before .before .before .before in
+    let e = d .before .before .before .before in
+    let a = e .before .before .before .before in
+    finished (a .args .s) (a .args .input) (now (a .args .buf)) _ _ (d .drain .result) (c .status-after .result) (a .pre .1) (a .pre .0 .kept) (e .if1 .left) (omega (arith, a .pre .0 .kept .few)) refl (d .drain .ensures) (c .status-after .ensures)
 
 pub finish-spec : {M : Type 1} → statement M
 finish-spec =
@@ -26,6 +31,7 @@ finish-spec =
     (λ c. search needs)
     (λ c. search needs)
     part-drain-end
+    (λ c κs. search needs)
     (λ c κs. search needs)
     (λ c. search needs)
     (λ c. search needs)

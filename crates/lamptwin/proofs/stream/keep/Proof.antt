@@ -1,3 +1,4 @@
+-- `keep`: the bytes before `i` are moved, and those from it on are as they were.
 use Rattle.lamptwin.proofs.Lines.{keep-take, keep-drop, kept}
 use denote.Ref.{now}
 use native.Mathlib.Omega.{arith}
@@ -18,10 +19,18 @@ loop-holds : tie.Need-loop-holds Inv-loop μ-loop
 loop-holds c = (search needs, c .least .ensures, refl, refl, refl)
 
 loop-again : tie.Need-loop-again Inv-loop μ-loop
-loop-again c = let l = c .before .before in let a = l .before .before .before in let v = l .loop .inv in (search needs, v .1, keep-take (now (a .args .buf)) (l .loop .buf) (a .args .from) (l .loop .i) (v .2) (v .3) (v .4) (omega arith), keep-drop (now (a .args .buf)) (l .loop .buf) (a .args .from) (l .loop .i) (v .2) (v .3) (v .4) _, simp length-set (v .4))
+loop-again c =
+    let l = c .before .before in
+    let a = l .before .before .before in
+    let v = l .loop .inv in
+    (search needs, v .1, keep-take (now (a .args .buf)) (l .loop .buf) (a .args .from) (l .loop .i) (v .2) (v .3) (v .4) (omega arith), keep-drop (now (a .args .buf)) (l .loop .buf) (a .args .from) (l .loop .i) (v .2) (v .3) (v .4) _, simp length-set (v .4))
 
 returns : tie.Need-returns Inv-loop μ-loop
-returns c = let l = c .before in let a = l .before .before .before in let v = l .loop .inv in kept (now (a .args .buf)) (l .loop .buf) (a .args .from) (a .args .end) (min 81 (a .args .end - a .args .from)) (l .loop .i) refl (omega arith) (omega arith) (v .2)
+returns c =
+    let l = c .before in
+    let a = l .before .before .before in
+    let v = l .loop .inv in
+    kept (now (a .args .buf)) (l .loop .buf) (a .args .from) (a .args .end) (min 81 (a .args .end - a .args .from)) (l .loop .i) refl (omega arith) (omega arith) (v .2)
 
 pub keep-spec : {M : Type 1} → statement M
 keep-spec =
