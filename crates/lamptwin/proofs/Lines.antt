@@ -61,13 +61,14 @@ module _ (o : Output) (text : List ℕ) (from : ℕ) (now : Output) (a : Reached
         sent-is = rw (lines, answers-both, length-append, ← a .state-is) (omega (arith, h .1, a .sent-is, ap length answers-there));
       }
 
-  pub sends-batch : o .sent + 76 * length text < 2 ^ 64 → Sends now (take (from + r .read - from) (drop from text)) (take (r .wrote - 0) new) (r .state)
+  pub sends-batch : (place : ℕ) → place ≡ now .sent → o .sent + 76 * length text < 2 ^ 64 → Sends place now (take (from + r .read - from) (drop from text)) (take (r .wrote - 0) new) (r .state)
   unfolding batch
-  sends-batch h =
+  sends-batch place here h =
       let z : from + r .read - from ≡ r .read = omega arith in
       let next : Output = record { state = r .state; sent = now .sent + length (take (r .wrote - 0) new); failed = false } in
       let m = reached-more next (refl, refl) in
       record {
+        here = here;
         text-is = rw z answers-there;
         next-is = rw z (ran .state-is);
         room = omega (arith, m .sent-is, lines-room (o .state) (take (from + r .read) text), length-take (from + r .read) text);

@@ -32,8 +32,9 @@ pub record Receives (i : Input) (have : ℕ) (old : List ℕ) (r : Input) (new :
 abbrev pub nothingSent : State → Output
 nothingSent first = record { state = first; sent = 0; failed = false }
 
--- what is handed over are the answers to some lines, from where the output is
-pub record Sends (o : Output) (lines text : List ℕ) (next : State) : Type 0 where
+-- what is handed over are the answers to some lines, from where the output is, which is the place
+pub record Sends (place : ℕ) (o : Output) (lines text : List ℕ) (next : State) : Type 0 where
+  pub here : place ≡ o .sent
   pub text-is : text ≡ answers (o .state) (linesOf lines)
   pub next-is : next ≡ after (o .state) (linesOf lines)
   pub room : o .sent + length text < 2 ^ 64
@@ -108,6 +109,11 @@ pub record Waits (s : Stream) (buf : List ℕ) : Type 0 where
   pub kept : Unfinished s buf
   pub short : s .input .read < 2 ^ 56
   pub place : s .output .sent ≤ 76 * s .input .read
+
+-- the places in the input and in the output are those of the stream: nothing was read or handed over since
+pub record Stands (read sent : ℕ) (s : Stream) : Type 0 where
+  pub read-is : read ≡ s .input .read
+  pub sent-is : sent ≡ s .output .sent
 
 -- what was read since fits behind the bytes kept
 pub record Reads (s : Stream) (i : Input) : Type 0 where

@@ -50,12 +50,15 @@ pub fn since(before: Input, input: Input) -> usize
 }
 
 // The one place that reads, behind the first `have` bytes; nothing at the end of the input. A read that fails is told of at once.
-pub fn receive(before: Input, have: usize, buf: &mut [u8]) -> Input
-    requires { ⌜ (have ≤ length (now buf)) × (before .read + length (now buf) < 2 ^ 64) ⌝ }
+// `place` is how far the input is read, and only moves here: an input from before an earlier read is not taken.
+pub fn receive(place: &mut usize, before: Input, have: usize, buf: &mut [u8]) -> Input
+    requires { ⌜ (now place ≡ before .read) × (have ≤ length (now buf)) × (before .read + length (now buf) < 2 ^ 64) ⌝ }
     ensures { λ r. ⌜ Receives before have (now (buf .entry)) r (now (buf .exit)) ⌝ }
+    ensures { λ r. ⌜ now (place .exit) ≡ r .read ⌝ }
 {
     let got = libc::read(STDIN_FILENO, &mut buf[have..]);
     let n = io::count(got, &buf[have..]);
+    *place = before.read + n;
     if got < 0 {
         os::fail(b"lamptwin: input");
         return Input {

@@ -6,5 +6,7 @@ mod stream;
 fn main() {
     let mut buf = io::large_buffer();
     let mut out = io::large_buffer();
-    stream::answer_all(&mut buf, &mut out);
+    let mut read: usize = 0;
+    let mut sent: usize = 0;
+    stream::answer_all(&mut read, &mut sent, &mut buf, &mut out);
 }

@@ -38,11 +38,20 @@ pub fn has_failed(output: Output) -> bool
 }
 
 // The one place that writes: the text is the answers to the lines, and `next` the state after them. A write that fails is told of at once.
-pub fn hand_over(before: Output, lines: &[u8], text: &[u8], next: State) -> Output
-    requires { ⌜ Sends before (now lines) (now text) next ⌝ }
+// `place` is how much was handed over, and only moves here: an output from before an earlier write is not taken.
+pub fn hand_over(
+    place: &mut usize,
+    before: Output,
+    lines: &[u8],
+    text: &[u8],
+    next: State,
+) -> Output
+    requires { ⌜ Sends (now place) before (now lines) (now text) next ⌝ }
     ensures { λ r. ⌜ (r .state ≡ next) × (r .sent ≡ before .sent + length (now (text .entry))) ⌝ }
+    ensures { λ r. ⌜ now (place .exit) ≡ r .sent ⌝ }
 {
     let done = io::write_all(STDOUT_FILENO, text);
+    *place = before.sent + text.len();
     if !done {
         os::fail(b"lamptwin: output");
     }

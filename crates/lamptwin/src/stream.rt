@@ -4,7 +4,7 @@ ghost use mathlib.Core.Bool.{cond};
 ghost use Prim.Native.Nat.{_+_, _-_, _*_, _^_, _<_, _≤_, min};
 ghost use lib.ListN.{length};
 ghost use Rattle.script.specs.Run.{freshState};
-ghost use Rattle.lamptwin.specs.Stream.{Drains, Kept, Waits, Reads, Ends, Feeds, Finishes, Turns, begun, goesOn, Answers};
+ghost use Rattle.lamptwin.specs.Stream.{Drains, Kept, Waits, Stands, Reads, Ends, Feeds, Finishes, Turns, begun, goesOn, Answers};
 use crate::input;
 use crate::input::Input;
 use crate::input::receive;
@@ -38,9 +38,10 @@ pub struct Drained {
 }
 
 // Answers every complete line of text.
-fn drain(before: Output, text: &[u8], out: &mut [u8]) -> Drained
-    requires { ⌜ (76 ≤ length (now out)) × (before .sent + 76 * length (now text) < 2 ^ 64) ⌝ }
+fn drain(before: Output, text: &[u8], place: &mut usize, out: &mut [u8]) -> Drained
+    requires { ⌜ (76 ≤ length (now out)) × (before .sent + 76 * length (now text) < 2 ^ 64) × (now place ≡ before .sent) ⌝ }
     ensures { λ r. ⌜ Drains before (now (text .entry)) r ⌝ }
+    ensures { λ r. ⌜ now (place .exit) ≡ r .output .sent ⌝ }
 {
     let mut output = before;
     let mut from: usize = 0;
@@ -54,7 +55,7 @@ fn drain(before: Output, text: &[u8], out: &mut [u8]) -> Drained
         let upto = from + read;
         let wrote = r.wrote;
         let next = r.state;
-        output = hand_over(output, &text[from..upto], &out[0..wrote], next);
+        output = hand_over(place, output, &text[from..upto], &out[0..wrote], next);
         from = upto;
         if output::has_failed(output) {
             return Drained { read: from, output };
@@ -94,14 +95,15 @@ fn status_after(output: Output, status: Status) -> Status
 }
 
 // Answers each line that is complete in the bytes kept and those read behind them. What is kept then, with what is to come, stands for them.
-fn feed(s: Stream, input: Input, buf: &mut [u8], out: &mut [u8]) -> Stream
-    requires { ⌜ Waits s (now buf) × Reads s input × (length (now buf) ≡ 65536) × (76 ≤ length (now out)) ⌝ }
+fn feed(s: Stream, input: Input, sent: &mut usize, buf: &mut [u8], out: &mut [u8]) -> Stream
+    requires { ⌜ Waits s (now buf) × Reads s input × (length (now buf) ≡ 65536) × (76 ≤ length (now out)) × (now sent ≡ s .output .sent) ⌝ }
     ensures { λ r. ⌜ Feeds s (input .read - s .input .read) (now (buf .entry)) r (now (buf .exit)) ⌝ }
+    ensures { λ r. ⌜ Stands (input .read) (now (sent .exit)) r ⌝ }
 {
     let earlier = s.input;
     let before = s.output;
     let end = s.have + input::since(earlier, input);
-    let d = drain(before, &buf[0..end], out);
+    let d = drain(before, &buf[0..end], sent, out);
     let read = d.read;
     let have = keep(buf, read, end);
     let after = d.output;
@@ -115,9 +117,10 @@ fn feed(s: Stream, input: Input, buf: &mut [u8], out: &mut [u8]) -> Stream
 }
 
 // The end of the input: a last line that lacks its line feed is answered as if it had one.
-fn finish(s: Stream, input: Input, buf: &mut [u8], out: &mut [u8]) -> Stream
-    requires { ⌜ Waits s (now buf) × Ends s input × (length (now buf) ≡ 65536) × (76 ≤ length (now out)) ⌝ }
+fn finish(s: Stream, input: Input, sent: &mut usize, buf: &mut [u8], out: &mut [u8]) -> Stream
+    requires { ⌜ Waits s (now buf) × Ends s input × (length (now buf) ≡ 65536) × (76 ≤ length (now out)) × (now sent ≡ s .output .sent) ⌝ }
     ensures { λ r. ⌜ Finishes s (now (buf .entry)) r (now (buf .exit)) ⌝ }
+    ensures { λ r. ⌜ Stands (input .read) (now (sent .exit)) r ⌝ }
 {
     let before = s.output;
     let have = s.have;
@@ -130,7 +133,7 @@ fn finish(s: Stream, input: Input, buf: &mut [u8], out: &mut [u8]) -> Stream
         };
     }
     buf[have] = 10;
-    let d = drain(before, &buf[0..have + 1], out);
+    let d = drain(before, &buf[0..have + 1], sent, out);
     let output = d.output;
     let status = status_after(output, Status::Ended);
     Stream {
@@ -142,14 +145,21 @@ fn finish(s: Stream, input: Input, buf: &mut [u8], out: &mut [u8]) -> Stream
 }
 
 // Reads once, and answers each line that is complete; at the end of the input, the last line. A read that fails is no end.
-fn take_turn(s: Stream, buf: &mut [u8], out: &mut [u8]) -> Stream
-    requires { ⌜ Waits s (now buf) × (length (now buf) ≡ 65536) × (76 ≤ length (now out)) ⌝ }
+fn take_turn(
+    s: Stream,
+    read: &mut usize,
+    sent: &mut usize,
+    buf: &mut [u8],
+    out: &mut [u8],
+) -> Stream
+    requires { ⌜ Waits s (now buf) × (length (now buf) ≡ 65536) × (76 ≤ length (now out)) × Stands (now read) (now sent) s ⌝ }
     ensures { λ r. ⌜ Turns s (now (buf .entry)) r (now (buf .exit)) ⌝ }
     ensures { λ r. ⌜ (r .status ≡ Status.Open → s .input .read < r .input .read) ⌝ }
+    ensures { λ r. ⌜ Stands (now (read .exit)) (now (sent .exit)) r ⌝ }
 {
     let have = s.have;
     let before = s.input;
-    let input = receive(before, have, buf);
+    let input = receive(read, before, have, buf);
     if input::has_failed(input) {
         let output = s.output;
         return Stream {
@@ -160,9 +170,9 @@ fn take_turn(s: Stream, buf: &mut [u8], out: &mut [u8]) -> Stream
         };
     }
     if input::has_ended(input) {
-        return finish(s, input, buf, out);
+        return finish(s, input, sent, buf, out);
     }
-    feed(s, input, buf, out)
+    feed(s, input, sent, buf, out)
 }
 
 fn begin(first: State) -> Stream
@@ -190,23 +200,31 @@ fn goes_on(s: Stream) -> bool
     }
 }
 
-// Reads and answers, from the state first on, up to the end of the input or a failed call.
-fn answer_from(first: State, buf: &mut [u8], out: &mut [u8]) -> Stream
-    requires { ⌜ (length (now buf) ≡ 65536) × (76 ≤ length (now out)) ⌝ }
+// Reads and answers, from the state first on, up to the end of the input or a failed call. `read` and `sent` count all that was.
+fn answer_from(
+    first: State,
+    read: &mut usize,
+    sent: &mut usize,
+    buf: &mut [u8],
+    out: &mut [u8],
+) -> Stream
+    requires { ⌜ (length (now buf) ≡ 65536) × (76 ≤ length (now out)) × (now read ≡ 0) × (now sent ≡ 0) ⌝ }
     ensures { λ r. ⌜ Answers first r (now (buf .exit)) ⌝ }
+    ensures { λ r. ⌜ Stands (now (read .exit)) (now (sent .exit)) r ⌝ }
 {
     let mut s = begin(first);
     while goes_on(s) {
-        s = take_turn(s, buf, out);
+        s = take_turn(s, read, sent, buf, out);
     }
     s
 }
 
 // From an empty bus on.
-pub fn answer_all(buf: &mut [u8], out: &mut [u8]) -> Stream
-    requires { ⌜ (length (now buf) ≡ 65536) × (76 ≤ length (now out)) ⌝ }
+pub fn answer_all(read: &mut usize, sent: &mut usize, buf: &mut [u8], out: &mut [u8]) -> Stream
+    requires { ⌜ (length (now buf) ≡ 65536) × (76 ≤ length (now out)) × (now read ≡ 0) × (now sent ≡ 0) ⌝ }
     ensures { λ r. ⌜ Answers freshState r (now (buf .exit)) ⌝ }
+    ensures { λ r. ⌜ Stands (now (read .exit)) (now (sent .exit)) r ⌝ }
 {
     let first = script::fresh();
-    answer_from(first, buf, out)
+    answer_from(first, read, sent, buf, out)
 }

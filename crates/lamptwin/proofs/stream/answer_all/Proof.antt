@@ -4,7 +4,9 @@ use Rattle.lamptwin.proofs.stream.answer_all.Statement.{statement}
 use Rattle.lamptwin.proofs.stream.answer_all.Tie as tie
 
 returns : tie.Need-returns
-returns c = let f = c .before .before .before .before in rw (f .before .before .before .fresh .ensures) at (f .answer-from .ensures)
+returns c =
+    let f = c .before .before .before .before in
+    (rw (f .before .before .before .before .before .fresh .ensures) at (f .answer-from .ensures .0), f .answer-from .ensures .1)
 
 pub answer-all-spec : {M : Type 1} → statement M
 answer-all-spec =

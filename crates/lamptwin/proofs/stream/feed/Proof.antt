@@ -11,9 +11,9 @@ returns : tie.Need-returns
 returns c =
     let k = c .before .before .before .before in
     let d = k .before .before .before .before in
-    let n = d .before .before .before .before .before in
+    let n = d .before .before .before .before .before .before in
     let a = n .before .before .before .before .before in
-    fed (a .args .s) (a .args .input) (now (a .args .buf)) _ _ (d .drain .result) (k .keep .result) (n .since .result) (c .status-after .result) (n .since .ensures) (a .pre .1 .more) (omega (arith, n .since .ensures, a .pre .1 .more, a .pre .1 .room, a .pre .2)) refl (d .drain .ensures) (k .keep .ensures) (c .status-after .ensures)
+    (fed (a .args .s) (a .args .input) (now (a .args .buf)) _ _ (d .drain .result) (k .keep .result) (n .since .result) (c .status-after .result) (n .since .ensures) (a .pre .1 .more) (omega (arith, n .since .ensures, a .pre .1 .more, a .pre .1 .room, a .pre .2)) refl (d .drain .ensures .0) (k .keep .ensures) (c .status-after .ensures), record { read-is = refl; sent-is = d .drain .ensures .1 })
 
 pub feed-spec : {M : Type 1} → statement M
 feed-spec =

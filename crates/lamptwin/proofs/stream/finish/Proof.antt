@@ -9,7 +9,9 @@ use Rattle.lamptwin.proofs.stream.finish.Statement.{statement}
 use Rattle.lamptwin.proofs.stream.finish.Tie as tie
 
 returns : tie.Need-returns
-returns c = let a = c .before .before .before .before in finished-none (a .args .s) (a .args .input) (now (a .args .buf)) (a .pre .1) (c .if1 .taken)
+returns c =
+    let a = c .before .before .before .before in
+    (finished-none (a .args .s) (a .args .input) (now (a .args .buf)) (a .pre .1) (c .if1 .taken), record { read-is = refl; sent-is = a .pre .4 })
 
 part-drain-end : tie.Need-part-drain-end
 part-drain-end c = simp length-set (omega arith)
@@ -17,9 +19,9 @@ part-drain-end c = simp length-set (omega arith)
 returns-2 : tie.Need-returns-2
 returns-2 c =
     let d = c .before .before .before .before in
-    let e = d .before .before .before .before in
+    let e = d .before .before .before .before .before in
     let a = e .before .before .before .before in
-    finished (a .args .s) (a .args .input) (now (a .args .buf)) _ _ (d .drain .result) (c .status-after .result) (a .pre .1) (a .pre .0 .kept) (e .if1 .left) (omega (arith, a .pre .0 .kept .few)) refl (d .drain .ensures) (c .status-after .ensures)
+    (finished (a .args .s) (a .args .input) (now (a .args .buf)) _ _ (d .drain .result) (c .status-after .result) (a .pre .1) (a .pre .0 .kept) (e .if1 .left) (omega (arith, a .pre .0 .kept .few)) refl (d .drain .ensures .0) (c .status-after .ensures), record { read-is = refl; sent-is = d .drain .ensures .1 })
 
 pub finish-spec : {M : Type 1} → statement M
 finish-spec =
