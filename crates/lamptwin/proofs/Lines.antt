@@ -17,7 +17,8 @@ use Rattle.script.specs.laws.Lines.{few-lines}
 use Rattle.script.specs.laws.Run.{after-both, answers-both}
 use Rattle.script.specs.declared.batch.State.{State}
 use Rattle.script.specs.declared.batch.Ran.{Ran}
-use Rattle.lamptwin.specs.Stream.{Sends, Reached, Kept}
+use Rattle.lamptwin.specs.Stream.{Sends}
+use Rattle.lamptwin.specs.Steps.{Reached, Kept}
 use Rattle.lamptwin.specs.declared.output.Output.{Output}
 
 whole-both : (p q : List ℕ) → Whole p → Whole q → Whole (p ++ q)

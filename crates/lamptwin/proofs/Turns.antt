@@ -17,7 +17,8 @@ use Rattle.script.specs.laws.Lines.{free, free-end, free-take}
 use Rattle.script.specs.laws.Run.{after-both, answers-both}
 use Rattle.script.specs.laws.Stream.{truncated-answers}
 use Rattle.script.specs.declared.batch.State.{State}
-use Rattle.lamptwin.specs.Stream.{Receives, Drains, Kept, StandsFor, Holds, Unfinished, Goes, Feeds, Finishes, Turns, Waits, Ends, begun, goesOn, isOpen}
+use Rattle.lamptwin.specs.Stream.{Receives, StandsFor, Holds, Unfinished, Goes, Turns, begun}
+use Rattle.lamptwin.specs.Steps.{Drains, Kept, Feeds, Finishes, Waits, Ends, goesOn, isOpen}
 use Rattle.lamptwin.specs.declared.input.Input.{Input}
 use Rattle.lamptwin.specs.declared.output.Output.{Output}
 use Rattle.lamptwin.specs.declared.stream.Drained.{Drained}

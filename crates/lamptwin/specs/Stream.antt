@@ -1,17 +1,15 @@
 -- What is promised of a stream of lines through fixed buffers.
-use Prim.Native.Nat.{ℕ, _+_, _-_, _*_, _^_, _≤_, _<_, min}
+use Prim.Native.Nat.{ℕ, _+_, _^_, _≤_, _<_}
 use mathlib.Core.Path.{_≡_}
-use mathlib.Core.Bool.{Bool, true, false, cond}
+use mathlib.Core.Bool.{true, false}
 use mathlib.Core.List.{List, [], _++_}
 use mathlib.Core.Logic.{_⊎_}
-use lib.ListN.{length, take, drop}
-use lib.Dec.{ltb}
-use Rattle.script.specs.Lines.{linesOf, endOf, Whole}
+use lib.ListN.{length, take}
+use Rattle.script.specs.Lines.{linesOf, endOf}
 use Rattle.script.specs.Run.{after, answers}
 use Rattle.script.specs.declared.batch.State.{State}
 use Rattle.lamptwin.specs.declared.input.Input.{Input}
 use Rattle.lamptwin.specs.declared.output.Output.{Output}
-use Rattle.lamptwin.specs.declared.stream.Drained.{Drained}
 use Rattle.lamptwin.specs.declared.stream.Stream.{Stream}
 use Rattle.lamptwin.specs.declared.stream.Status.{Status}
 use Rattle.lamptwin.specs.declared.stream.Status.the-variants.{Open, Ended, Failed}
@@ -38,25 +36,6 @@ pub record Sends (place : ℕ) (o : Output) (lines text : List ℕ) (next : Stat
   pub text-is : text ≡ answers (o .state) (linesOf lines)
   pub next-is : next ≡ after (o .state) (linesOf lines)
   pub room : o .sent + length text < 2 ^ 64
-
--- ---- lines in a buffer
-
--- from o on, the answers to the lines of the first `read` bytes are handed over
-pub record Reached (o : Output) (text : List ℕ) (read : ℕ) (r : Output) : Type 0 where
-  pub within : read ≤ length text
-  pub whole : Whole (take read text)
-  pub state-is : r .state ≡ after (o .state) (linesOf (take read text))
-  pub sent-is : r .sent ≡ o .sent + length (answers (o .state) (linesOf (take read text)))
-
--- so it is with what was read; and if no write failed, no complete line is left
-pub record Drains (o : Output) (text : List ℕ) (r : Drained) : Type 0 where
-  pub reached : Reached o text (r .read) (r .output)
-  pub stop : r .output .failed ≡ false → length text ≤ r .read + endOf (drop (r .read) text)
-
--- the first r bytes are those from `from` up to `end`, or the first 81 of them
-pub record Kept (old : List ℕ) (from end : ℕ) (new : List ℕ) (r : ℕ) : Type 0 where
-  pub count : r ≡ min 81 (end - from)
-  pub text : take r new ≡ take r (drop from old)
 
 -- ---- a stream
 
@@ -89,56 +68,21 @@ pub record Goes (s : Stream) (text : List ℕ) (more : ℕ) (r : Stream) (buf : 
   pub holds : Holds (r .status) (s .output .state) text written r (take (r .have) buf)
   pub kept : r .status ≡ Open → Unfinished r buf
 
--- n bytes more, behind the bytes kept: that is no end
-pub record Feeds (s : Stream) (n : ℕ) (old : List ℕ) (r : Stream) (new : List ℕ) : Type 0 where
-  pub goes : Goes s (take (s .have + n) old) n r new
-  pub on : r .status ≡ Ended → ⊥
-
--- the bytes kept are all that is left
-pub record Finishes (s : Stream) (old : List ℕ) (r : Stream) (new : List ℕ) : Type 0 where
-  pub goes : Goes s (take (s .have) old) 0 r new
-  pub over : r .status ≡ Open → ⊥
-
 -- some bytes are read behind the bytes kept
 pub record Turns (s : Stream) (old : List ℕ) (r : Stream) (new : List ℕ) : Type 0 where
   pub got : List ℕ
   pub goes : Goes s (take (s .have) old ++ got) (length got) r new
-
--- what a turn asks: one line at most, unfinished, and counts that do not wrap
-pub record Waits (s : Stream) (buf : List ℕ) : Type 0 where
-  pub kept : Unfinished s buf
-  pub short : s .input .read < 2 ^ 56
-  pub place : s .output .sent ≤ 76 * s .input .read
 
 -- the places in the input and in the output are those of the stream: nothing was read or handed over since
 pub record Stands (read sent : ℕ) (s : Stream) : Type 0 where
   pub read-is : read ≡ s .input .read
   pub sent-is : sent ≡ s .output .sent
 
--- what was read since fits behind the bytes kept
-pub record Reads (s : Stream) (i : Input) : Type 0 where
-  pub more : s .input .read ≤ i .read
-  pub room : s .have + i .read ≤ s .input .read + 65536
-
--- nothing was read since, at the end of the input
-pub record Ends (s : Stream) (i : Input) : Type 0 where
-  pub ended : i .ended ≡ true
-  pub none : i .read ≡ s .input .read
-
 -- ---- a whole run
 
 -- nothing is read yet
 abbrev pub begun : State → Stream
 begun first = record { have = 0; input = nothingRead; output = nothingSent first; status = Open }
-
-abbrev pub isOpen : Status → Bool
-isOpen Open = true
-isOpen Ended = false
-isOpen Failed = false
-
--- there is more to come, and less than 2^56 bytes are read
-abbrev pub goesOn : Stream → Bool
-goesOn s = cond (isOpen (s .status)) (ltb (s .input .read) (2 ^ 56)) false
 
 -- a run is a long turn, up to the end of the input, a failed call or 2^56 bytes
 pub record Answers (first : State) (r : Stream) (buf : List ℕ) : Type 0 where

@@ -1,6 +1,6 @@
 -- `drain`: what is handed over so far are the answers to the lines so far; each batch goes on from there.
 use Rattle.lamptwin.proofs.Lines.{reached-none, reached-more, sends-batch, none-left}
-use Rattle.lamptwin.specs.Stream.{Reached}
+use Rattle.lamptwin.specs.Steps.{Reached}
 use denote.Ref.{now}
 use native.Mathlib.Omega.{arith}
 use borrow.Author.Needs.{needs}
