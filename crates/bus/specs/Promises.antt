@@ -336,6 +336,15 @@ step-shape b e =
 pub step-well : (b : Bus) (e : Event) → busOk b ≡ true → busOk (stepReply b e .bus) ≡ true
 step-well b e h = step-shape b e ∙ h
 
+-- and so does a wait in a unit
+pub wait-for-shape : (b : Bus) (dev : ℕ) (w : Duration) → busOk (waitForReply b dev w .bus) ≡ busOk b
+unfolding stepReply
+wait-for-shape b dev w = go (isForeign b dev w) refl
+  where
+    go : (t : Bool) → isForeign b dev w ≡ t → busOk (waitForReply b dev w .bus) ≡ busOk b
+    go false e = ap (λ (r : Reply). busOk (r .bus)) (own-unit b dev w e .0) ∙ step-shape b (Wait dev (amount w))
+    go true e = ap (λ (r : Reply). busOk (r .bus)) (wait-for-refused b dev w (other-unit b dev w e .0))
+
 pub empty-well : busOk emptyBus ≡ true
 unfolding busOk allFirst
 empty-well = refl

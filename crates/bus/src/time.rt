@@ -14,7 +14,7 @@ ghost use Rattle.bus.specs.Refusals.{codeOf};
 ghost use Rattle.bus.specs.Replies.{waitReply, litReply};
 ghost use Rattle.bus.specs.Units.{isForeign, waitForRefusals, waitForReply, isTooLongFor, litForRefusals, litForReply};
 
-// The one place where a bare number gets a unit.
+// A bare number in the unit of the device's kind.
 fn own_duration(bus: Bus, dev: u64, n: u64) -> Duration
     ensures { λ r. ⌜ r ≡ ownDuration (deviceAt bus dev .chip) n ⌝ }
 {
