@@ -155,7 +155,7 @@ fn past_the_count() {
 
 fn in_phase(label: &[u8], phase: Phase) {
     line::text(label);
-    codes(handed::in_phase(setup::one(9635, 0), phase), 0);
+    codes(setup::in_phase(setup::one(9635, 0), phase), 0);
 }
 
 fn phases() {
@@ -166,7 +166,7 @@ fn phases() {
     in_phase(b"9635 in read", Phase::Read);
     in_phase(b"9635 in ended", Phase::Ended);
     line::text(b"9635 control=20 in write");
-    codes(handed::in_phase(bad, Phase::Write), 0);
+    codes(setup::in_phase(bad, Phase::Write), 0);
 }
 
 pub fn run() {

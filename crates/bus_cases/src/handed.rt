@@ -1,23 +1,10 @@
-// Records and buses that no event makes.
-use bus::Bus;
+// A record that no event makes.
 use chip::Chip;
 use device::Device;
-use device::Phase;
 ghost use mathlib.Core.Path.{_≡_};
 ghost use lib.ListN.{set};
 ghost use Rattle.device.specs.Fields.{withCount, withWritten};
 ghost use Rattle.device.specs.Reset.{fresh};
-
-pub fn in_phase(bus: Bus, phase: Phase) -> Bus
-    ensures { λ r. ⌜ r ≡ record { phase = phase; count = bus .count; devices = bus .devices } ⌝ }
-{
-    let devices = bus.devices;
-    Bus {
-        phase: phase,
-        count: bus.count,
-        devices: devices,
-    }
-}
 
 // t as given; a driver is awake if MODE1 says so.
 pub fn counted(chip: Chip, mode1: u8, count: u64) -> Device

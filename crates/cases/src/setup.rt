@@ -3,6 +3,7 @@ use bus::Bus;
 use bus::Reply;
 use chip::Chip;
 use device::Device;
+use device::Phase;
 ghost use mathlib.Core.Path.{_≡_};
 ghost use mathlib.Core.List.{[], _∷_};
 ghost use lib.ListN.{getD};
@@ -48,6 +49,17 @@ pub fn with_count(bus: Bus, count: u8) -> Bus
     let mut next = bus;
     next.count = count;
     next
+}
+
+pub fn in_phase(bus: Bus, phase: Phase) -> Bus
+    ensures { λ r. ⌜ r ≡ record { phase = phase; count = bus .count; devices = bus .devices } ⌝ }
+{
+    let devices = bus.devices;
+    Bus {
+        phase: phase,
+        count: bus.count,
+        devices: devices,
+    }
 }
 
 // A fresh device, but for its control byte.

@@ -1,7 +1,7 @@
 -- `read_only_set` meets its contract, by what its calls ensure.
 use borrow.Author.Needs.{needs}
-use Rattle.bus_cases.proofs.records.read_only_set.Statement.{statement}
-use Rattle.bus_cases.proofs.records.read_only_set.Tie as tie
+use Rattle.record_cases.proofs.records.read_only_set.Statement.{statement}
+use Rattle.record_cases.proofs.records.read_only_set.Tie as tie
 
 returns : tie.Need-returns
 returns c = simp (c .holding .ensures, c .before .fresh .ensures)

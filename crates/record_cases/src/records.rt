@@ -4,7 +4,7 @@ use cases::line;
 use cases::setup;
 use chip::Chip;
 ghost use mathlib.Core.Path.{_≡_};
-ghost use Rattle.bus_cases.specs.Handed.{readOnlySet, registerSet};
+ghost use Rattle.record_cases.specs.Handed.{readOnlySet, registerSet};
 
 // Read-only bits set in MODE1 (asleep, SUB1 and ALLCALL on), MODE2, SUBADR1 and ALLCALLADR.
 fn read_only_set() -> Bus

@@ -1,4 +1,4 @@
-// wait and lit in ticks and in steps: each for the kind that has the unit, refused with 10 for the other.
+// wait and lit in ticks and in steps, a line for each: each for the kind that has the unit, refused with 10 for the other.
 use bus::Bus;
 use bus::Reply;
 use cases::line;
@@ -87,7 +87,7 @@ fn bad() {
     wait_on(b"bad bus, ", bus, 0, 5);
 }
 
-pub fn run() {
+fn main() {
     wait(0, 5);
     wait(1, 5);
     wait(2, 5);

@@ -1,7 +1,7 @@
 -- `staged` meets its contract, by what its calls ensure.
 use borrow.Author.Needs.{needs}
-use Rattle.bus_cases.proofs.stages.staged.Statement.{statement}
-use Rattle.bus_cases.proofs.stages.staged.Tie as tie
+use Rattle.record_cases.proofs.stages.staged.Statement.{statement}
+use Rattle.record_cases.proofs.stages.staged.Tie as tie
 
 returns : tie.Need-returns
 returns c = simp (c .with-stage .ensures, c .before .controlled .ensures)

@@ -1,7 +1,7 @@
 -- `mixed_bus` meets its contract, by what its calls ensure.
 use borrow.Author.Needs.{needs}
-use Rattle.bus_cases.proofs.stages.mixed_bus.Statement.{statement}
-use Rattle.bus_cases.proofs.stages.mixed_bus.Tie as tie
+use Rattle.record_cases.proofs.stages.mixed_bus.Statement.{statement}
+use Rattle.record_cases.proofs.stages.mixed_bus.Tie as tie
 
 returns : tie.Need-returns
 returns c = simp (c .in-phase .ensures, c .before .with-count .ensures, c .before .before .with-device2 .ensures, c .before .before .before .staged3 .ensures, c .before .before .before .before .with-device .ensures, c .before .before .before .before .before .staged2 .ensures, c .before .before .before .before .before .before .holding .ensures, c .before .before .before .before .before .before .before .staged .ensures)

@@ -1,5 +1,4 @@
 // What a device does in the message, as handed in: which stages fit which phase, and what they do in a write.
-use crate::handed;
 use bus::Bus;
 use cases::line;
 use cases::setup;
@@ -10,12 +9,12 @@ use device::Stage;
 ghost use mathlib.Core.Path.{_≡_};
 ghost use Rattle.device.specs.declared.Phase.the-variants.{Write};
 ghost use Rattle.bus.specs.Bus.{withDevice};
-ghost use Rattle.bus_cases.specs.Handed.{busIn, stagedOf, mixedBus};
+ghost use Rattle.record_cases.specs.Handed.{busIn, stagedOf, mixedBus};
 
 fn start_in(word: &[u8], device: Device, phase: Phase) {
     line::named_code(
         word,
-        bus::calls::start(handed::in_phase(setup::holding(device), phase)),
+        bus::calls::start(setup::in_phase(setup::holding(device), phase)),
     );
 }
 
@@ -43,7 +42,7 @@ fn staged(chip: Chip, address: u8, control: u8, stage: Stage) -> Device
 fn in_write(chip: Chip, stage: Stage) -> Bus
     ensures { λ r. ⌜ r ≡ withDevice (busIn Write 1) 0 (stagedOf chip 0 0 stage) ⌝ }
 {
-    handed::in_phase(setup::holding(staged(chip, 0, 0x00, stage)), Phase::Write)
+    setup::in_phase(setup::holding(staged(chip, 0, 0x00, stage)), Phase::Write)
 }
 
 fn held(label: &[u8], bus: Bus, dev: u64) {
@@ -68,7 +67,7 @@ fn mixed_bus() -> Bus
     let bus = setup::holding(staged(Chip::Pca9635, 16, 0x80, Stage::Control));
     let bus = bus::with_device(bus, 1, staged(Chip::Pca9634, 17, 0x82, Stage::Data));
     let bus = bus::with_device(bus, 2, staged(Chip::Pca9635, 18, 0x83, Stage::ResetFirst));
-    handed::in_phase(setup::with_count(bus, 3), Phase::Write)
+    setup::in_phase(setup::with_count(bus, 3), Phase::Write)
 }
 
 // A driver that waits for its control byte, one that takes data, one that has taken 06h A5h: 5Ah is an illegal control byte,

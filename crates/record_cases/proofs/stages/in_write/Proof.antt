@@ -1,7 +1,7 @@
 -- `in_write` meets its contract, by what its calls ensure.
 use borrow.Author.Needs.{needs}
-use Rattle.bus_cases.proofs.stages.in_write.Statement.{statement}
-use Rattle.bus_cases.proofs.stages.in_write.Tie as tie
+use Rattle.record_cases.proofs.stages.in_write.Statement.{statement}
+use Rattle.record_cases.proofs.stages.in_write.Tie as tie
 
 returns : tie.Need-returns
 returns c = simp (c .in-phase .ensures, c .before .holding .ensures, c .before .before .staged .ensures)
