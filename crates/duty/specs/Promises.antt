@@ -1,7 +1,7 @@
 -- Demand 3 on the answers of lit: the bounds for every bus, position, output and length, and that each bound is reached. That the buses of which it speaks exist is in `Witness`.
 -- Once over the number of outputs: a driver's chip is a variable.
 use mathlib.Core.Path.{_≡_, refl, sym, ap, _∙_}
-use mathlib.Core.Bool.{Bool, true, false, _||_, and-false, true≢false}
+use mathlib.Core.Bool.{Bool, true, false, and-false}
 use Prim.Native.Nat.{ℕ, _+_, _-_, _*_, _≤_, _<_}
 use native.Mathlib.Omega.{arith}
 use lib.Dec.{leb, ltb}
@@ -13,6 +13,7 @@ use Rattle.lamp.specs.Promises.{individual-duty, dimmed-duty}
 use Rattle.lamp.specs.declared.DriverMode.{DriverMode}
 use Rattle.lamp.specs.declared.DriverMode.the-variants as Mode
 use Rattle.chip.specs.Kinds.{isDriver, outputsOf}
+use Rattle.chip.specs.laws.Logic.{neither}
 use Rattle.device.specs.Registers.{isAwake}
 use Rattle.device.specs.Output.{driverOutput, lampLit, litOf}
 use Rattle.device.specs.Wait.{overruns}
@@ -26,10 +27,6 @@ use Rattle.bus.specs.declared.Bus.{Bus}
 use Rattle.bus.specs.declared.Reply.{Reply}
 
 -- ---- lit's value is the tick-by-tick sum
-
-neither : (a b : Bool) → (a || b) ≡ false → (a ≡ false) × (b ≡ false)
-neither true b e = (e, absurd (true≢false e))
-neither false b e = (refl, e)
 
 in-limit : (d : Device) (w : ℕ) → isAwake d ≡ true → overruns d w ≡ false → leb (d .count + w) countLimit ≡ true
 unfolding overruns
