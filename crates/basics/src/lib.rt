@@ -1,0 +1,1 @@
+// Definitions and laws without a word of this field are in specs/.
