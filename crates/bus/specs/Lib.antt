@@ -1,7 +1,9 @@
 pub mod First
-pub mod Refusals
 pub mod Bus
 pub mod Replies
+pub mod Add
+pub mod Signals
+pub mod Place
 pub mod Units
 pub mod Events
 pub mod laws

@@ -1,4 +1,4 @@
--- wait and lit for a duration, which says its unit: as the calls by a bare number, with 10 for the wrong sort of device.
+-- wait and lit for a duration, which says its unit: as by a bare number, with 10 for the wrong sort of device.
 use Prim.Native.Nat.{ℕ}
 use mathlib.Core.Bool.{Bool, not, _||_}
 use mathlib.Core.List.{List, [], _∷_, _++_}
@@ -8,35 +8,35 @@ use Rattle.lamp.specs.Duration.{amount}
 use Rattle.lamp.specs.declared.Duration.{Duration}
 use Rattle.device.specs.Wait.{isOwn, overrunsFor, waitedFor}
 use Rattle.device.specs.Output.{litFor}
-use Rattle.bus.specs.Refusals.{Refusal, refuse}
+use Rattle.device.specs.declared.Device.{Device}
+use Rattle.refusals.specs.Refusals.{Refusal, refuse}
 use Rattle.bus.specs.Bus.{deviceAt, withDevice}
-use Rattle.bus.specs.Replies.{doneWith, answer, placeRefusals, isMissing}
+use Rattle.bus.specs.Replies.{doneWith, answer}
+use Rattle.bus.specs.Place.{placeRefusals, isMissing}
 use Rattle.bus.specs.declared.Bus.{Bus}
 use Rattle.bus.specs.declared.Reply.{Reply}
 
--- 10 steps for a driver, or ticks for a blinker
-abbrev pub isForeign : Bus → ℕ → Duration → Bool
-isForeign b dev w = not (isOwn (deviceAt b dev .chip) w)
+-- steps for a driver, or ticks for a blinker
+abbrev pub isForeign : Device → Duration → Bool
+isForeign d w = not (isOwn (d .chip) w)
+
+abbrev pub isTooLongFor : Device → Duration → Bool
+isTooLongFor d w = ltb countLimit (amount w) || overrunsFor d w
 
 abbrev pub waitForRefusals : Bus → ℕ → Duration → List Refusal
 waitForRefusals b dev w =
-    placeRefusals b dev ++ refuse 6 (overrunsFor (deviceAt b dev) w) ∷ refuse 10 (isForeign b dev w) ∷ []
-
-abbrev pub waitForDone : Bus → ℕ → Duration → Reply
-waitForDone b dev w = doneWith 0 (withDevice b dev (waitedFor (deviceAt b dev) w))
+    placeRefusals b dev ++ refuse 6 (overrunsFor (deviceAt b dev) w) ∷ refuse 10 (isForeign (deviceAt b dev) w) ∷ []
 
 unfoldable pub waitForReply : Bus → ℕ → Duration → Reply
-waitForReply b dev w = answer (waitForRefusals b dev w) b (waitForDone b dev w)
-
-abbrev pub isTooLongFor : Bus → ℕ → Duration → Bool
-isTooLongFor b dev w = ltb countLimit (amount w) || overrunsFor (deviceAt b dev) w
+waitForReply b dev w = answer (waitForRefusals b dev w) b (doneWith 0 (withDevice b dev (waitedFor (deviceAt b dev) w)))
 
 abbrev pub litForRefusals : Bus → ℕ → ℕ → Duration → List Refusal
 litForRefusals b dev out w =
-    placeRefusals b dev ++ refuse 6 (isTooLongFor b dev w) ∷ refuse 9 (isMissing b dev out) ∷ refuse 10 (isForeign b dev w) ∷ []
-
-abbrev pub litForDone : Bus → ℕ → ℕ → Duration → Reply
-litForDone b dev out w = doneWith (litFor (deviceAt b dev) out w) b
+    placeRefusals b dev
+    ++ refuse 6 (isTooLongFor (deviceAt b dev) w)
+    ∷ refuse 9 (isMissing (deviceAt b dev) out)
+    ∷ refuse 10 (isForeign (deviceAt b dev) w)
+    ∷ []
 
 unfoldable pub litForReply : Bus → ℕ → ℕ → Duration → Reply
-litForReply b dev out w = answer (litForRefusals b dev out w) b (litForDone b dev out w)
+litForReply b dev out w = answer (litForRefusals b dev out w) b (doneWith (litFor (deviceAt b dev) out w) b)

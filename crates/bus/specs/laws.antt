@@ -1,4 +1,6 @@
 pub mod First
-pub mod Refusals
+pub mod Place
 pub mod Replies
+pub mod Signals
 pub mod Units
+pub mod WellFormed

@@ -6,7 +6,7 @@ use device::Phase;
 use protocol::Signal;
 ghost use mathlib.Core.Path.{_≡_};
 ghost use mathlib.Core.Bool.{cond};
-ghost use Prim.Native.Nat.{_≤_};
+ghost use Prim.Native.Nat.{_≤_, _<_};
 ghost use lib.ListN.{getD, set};
 ghost use Rattle.chip.specs.declared.Chip.the-variants.{Pca9635};
 ghost use Rattle.device.specs.Bits.{maskFirst};
@@ -16,7 +16,18 @@ ghost use Rattle.protocol.specs.Put.{acksTo};
 ghost use Rattle.protocol.specs.Read.{talkOf};
 ghost use Rattle.protocol.specs.Signal.{deviceAfter};
 ghost use Rattle.bus.specs.First.{mapFirst, allFirst, andFirst};
-ghost use Rattle.bus.specs.Bus.{busOk, hasDevice, deviceAt, withDevice, busAfter};
+ghost use Rattle.bus.specs.Bus.{busOk, hasDevice, deviceAt, withDevice, withAdded, busAfter, emptyBus};
+
+// A bus with no device and no message.
+pub fn empty() -> Bus
+    ensures { λ r. ⌜ r ≡ emptyBus ⌝ }
+{
+    Bus {
+        phase: Phase::Idle,
+        count: 0,
+        devices: [device::fresh(Chip::Pca9635, 0); 8],
+    }
+}
 
 fn all_ok(devices: [Device; 8], n: usize, phase: Phase) -> bool
     requires { ⌜ n ≤ 8 ⌝ }
@@ -69,7 +80,7 @@ pub fn device_at(bus: Bus, dev: u64) -> Device
     element(devices, dev)
 }
 
-pub fn with_element(devices: [Device; 8], dev: u64, d: Device) -> [Device; 8]
+fn with_element(devices: [Device; 8], dev: u64, d: Device) -> [Device; 8]
     ensures { λ r. ⌜ r ≡ set devices dev d ⌝ }
 {
     let mut next = devices;
@@ -85,6 +96,18 @@ pub fn with_device(bus: Bus, dev: u64, d: Device) -> Bus
     let devices = bus.devices;
     let after = with_element(devices, dev, d);
     let mut next = bus;
+    next.devices = after;
+    next
+}
+
+pub fn with_added(bus: Bus, d: Device) -> Bus
+    requires { ⌜ bus .count < 8 ⌝ }
+    ensures { λ r. ⌜ r ≡ withAdded bus d ⌝ }
+{
+    let devices = bus.devices;
+    let after = with_element(devices, bus.count as u64, d);
+    let mut next = bus;
+    next.count = bus.count + 1;
     next.devices = after;
     next
 }

@@ -1,23 +1,23 @@
 // A bus of up to eight devices, by value, and every call on it.
-use chip::Chip;
 use device::Device;
 use device::Phase;
-ghost use mathlib.Core.Path.{_≡_};
-ghost use Rattle.bus.specs.Bus.{emptyBus};
-ghost use Rattle.bus.specs.Replies.{refusedWith, doneWith};
 
 mod add;
 pub mod calls;
 mod devices;
+mod events;
 mod place;
 pub mod proved_callers;
-mod refusal;
+mod replies;
 mod signals;
-mod time;
+mod units;
 
 pub use devices::device_at;
+pub use devices::empty;
 pub use devices::is_ok;
 pub use devices::with_device;
+pub use replies::done;
+pub use replies::refused;
 
 pub struct Bus {
     pub phase: Phase,
@@ -32,48 +32,38 @@ pub struct Reply {
     pub bus: Bus,
 }
 
-// What can happen on the bus.
-pub enum Event {
-    Add { chip: u64, addr: u64 },
+// What goes over the bus for all devices alike, with numbers that may be too large.
+pub enum SignalEvent {
     Start,
     Stop,
     Put(u64),
     Get(u64),
-    Wait { dev: u64, ticks: u64 },
-    Oe { dev: u64, level: u64 },
-    Ext { dev: u64, level: u64 },
-    Reset { dev: u64 },
-    Lit { dev: u64, out: u64, ticks: u64 },
-    Pin { dev: u64, out: u64 },
 }
 
-// A bus with no device and no message.
-pub fn empty() -> Bus
-    ensures { λ r. ⌜ r ≡ emptyBus ⌝ }
-{
-    Bus {
-        phase: Phase::Idle,
-        count: 0,
-        devices: [device::fresh(Chip::Pca9635, 0); 8],
-    }
+// What changes one device.
+pub enum Change {
+    Wait(u64),
+    Oe(u64),
+    Ext(u64),
+    Reset,
 }
 
-pub fn refused(bus: Bus, code: u64) -> Reply
-    ensures { λ r. ⌜ r ≡ refusedWith bus code ⌝ }
-{
-    Reply {
-        code: code,
-        value: 0,
-        bus: bus,
-    }
+// What asks one device.
+pub enum Question {
+    Lit { out: u64, ticks: u64 },
+    Pin(u64),
 }
 
-pub fn done(value: u64, bus: Bus) -> Reply
-    ensures { λ r. ⌜ r ≡ doneWith value bus ⌝ }
-{
-    Reply {
-        code: 0,
-        value: value,
-        bus: bus,
-    }
+// What can happen on the bus.
+pub enum Event {
+    Add { chip: u64, addr: u64 },
+    Signal(SignalEvent),
+    Change { dev: u64, change: Change },
+    Ask { dev: u64, question: Question },
+}
+
+// What a number or a line names.
+pub enum Request {
+    Known(Event),
+    Unknown,
 }

@@ -1,117 +1,118 @@
 // Events and questions for the device at one position.
 use crate::Bus;
+use crate::Change;
+use crate::Question;
 use crate::Reply;
-use crate::refusal::or_refused;
+use device::Device;
+use refusals::least;
+use refusals::or_refused;
 ghost use mathlib.Core.Path.{_≡_};
-ghost use Rattle.chip.specs.Kinds.{isDriver};
-ghost use Rattle.bus.specs.Bus.{busOk, deviceAt};
-ghost use Rattle.bus.specs.Refusals.{codeOf};
-ghost use Rattle.bus.specs.Replies.{placeRefusals, levelRefusals, oeRefusals, extRefusals, oeReply, extReply, resetReply, isMissing, pinRefusals, pinReply, blinkRefusals, blinkReply};
+ghost use Rattle.refusals.specs.Refusals.{codeOf};
+ghost use Rattle.bus.specs.declared.Event.the-variants as E;
+ghost use Rattle.bus.specs.Bus.{busOk};
+ghost use Rattle.bus.specs.Place.{placeRefusals, levelRefusals, changeRefusals, afterChange, isMissing, questionRefusals, valueOf, blinkRefusals, blinkReply};
+ghost use Rattle.bus.specs.Events.{stepReply};
 
-// 3 no device there, 4 a bus that is not well formed.
 pub fn place_code(ok: bool, bus: Bus, dev: u64) -> u64
     requires { ⌜ ok ≡ busOk bus ⌝ }
     ensures { λ r. ⌜ r ≡ codeOf (placeRefusals bus dev) ⌝ }
 {
-    if crate::devices::has_device(bus, dev) {
-        if ok { 0 } else { 4 }
-    } else {
-        3
-    }
+    let code = or_refused(0, 3, !crate::devices::has_device(bus, dev));
+    or_refused(code, 4, !ok)
 }
 
-fn level_code(ok: bool, bus: Bus, dev: u64, most: u64, level: u64, wrong: bool) -> u64
-    requires { ⌜ ok ≡ busOk bus ⌝ }
-    ensures { λ r. ⌜ r ≡ codeOf (levelRefusals bus dev most level wrong) ⌝ }
+fn level_code(most: u64, level: u64, wrong: bool) -> u64
+    ensures { λ r. ⌜ r ≡ codeOf (levelRefusals most level wrong) ⌝ }
 {
-    let code = or_refused(place_code(ok, bus, dev), 7, most < level);
-    or_refused(code, 10, wrong)
+    or_refused(or_refused(0, 7, most < level), 10, wrong)
 }
 
-fn is_driver(bus: Bus, dev: u64) -> bool
-    ensures { λ r. ⌜ r ≡ isDriver (deviceAt bus dev .chip) ⌝ }
+fn change_code(d: Device, change: Change) -> u64
+    ensures { λ r. ⌜ r ≡ codeOf (changeRefusals d change) ⌝ }
 {
-    let d = crate::devices::device_at(bus, dev);
     let chip = d.chip;
-    chip::is_driver(chip)
-}
-
-fn oe_code(ok: bool, bus: Bus, dev: u64, level: u64) -> u64
-    requires { ⌜ ok ≡ busOk bus ⌝ }
-    ensures { λ r. ⌜ r ≡ codeOf (oeRefusals bus dev level) ⌝ }
-{
-    level_code(ok, bus, dev, 1, level, !is_driver(bus, dev))
-}
-
-pub fn oe(ok: bool, bus: Bus, dev: u64, level: u64) -> Reply
-    requires { ⌜ ok ≡ busOk bus ⌝ }
-    ensures { λ r. ⌜ r ≡ oeReply bus dev level ⌝ }
-{
-    let code = oe_code(ok, bus, dev, level);
-    if code == 0 {
-        let next = device::with_oe(crate::devices::device_at(bus, dev), level == 1);
-        crate::done(0, crate::devices::with_device(bus, dev, next))
-    } else {
-        crate::refused(bus, code)
+    match change {
+        Change::Wait(ticks) => or_refused(
+            0,
+            6,
+            device::wait::overruns(d, device::wait::own_duration(chip, ticks)),
+        ),
+        Change::Oe(level) => level_code(1, level, !chip::is_driver(chip)),
+        Change::Ext(level) => level_code(255, level, chip::is_driver(chip)),
+        Change::Reset => 0,
     }
 }
 
-fn ext_code(ok: bool, bus: Bus, dev: u64, level: u64) -> u64
-    requires { ⌜ ok ≡ busOk bus ⌝ }
-    ensures { λ r. ⌜ r ≡ codeOf (extRefusals bus dev level) ⌝ }
+fn after_change(d: Device, change: Change) -> Device
+    requires { ⌜ codeOf (changeRefusals d change) ≡ 0 ⌝ }
+    ensures { λ r. ⌜ r ≡ afterChange d change ⌝ }
 {
-    level_code(ok, bus, dev, 255, level, is_driver(bus, dev))
-}
-
-pub fn ext(ok: bool, bus: Bus, dev: u64, level: u64) -> Reply
-    requires { ⌜ ok ≡ busOk bus ⌝ }
-    ensures { λ r. ⌜ r ≡ extReply bus dev level ⌝ }
-{
-    let code = ext_code(ok, bus, dev, level);
-    if code == 0 {
-        let next = device::with_levels(crate::devices::device_at(bus, dev), level as u8);
-        crate::done(0, crate::devices::with_device(bus, dev, next))
-    } else {
-        crate::refused(bus, code)
+    let chip = d.chip;
+    match change {
+        Change::Wait(ticks) => device::wait::waited(d, device::wait::own_duration(chip, ticks)),
+        Change::Oe(level) => device::with_oe(d, level == 1),
+        Change::Ext(level) => device::with_levels(d, level as u8),
+        Change::Reset => device::reset(d),
     }
 }
 
-pub fn reset(ok: bool, bus: Bus, dev: u64) -> Reply
+pub fn change(ok: bool, bus: Bus, dev: u64, change: Change) -> Reply
     requires { ⌜ ok ≡ busOk bus ⌝ }
-    ensures { λ r. ⌜ r ≡ resetReply bus dev ⌝ }
-{
-    let code = place_code(ok, bus, dev);
-    if code == 0 {
-        let next = device::reset(crate::devices::device_at(bus, dev));
-        crate::done(0, crate::devices::with_device(bus, dev, next))
-    } else {
-        crate::refused(bus, code)
-    }
-}
-
-pub fn is_missing(bus: Bus, dev: u64, out: u64) -> bool
-    ensures { λ r. ⌜ r ≡ isMissing bus dev out ⌝ }
+    ensures { λ r. ⌜ r ≡ stepReply bus (E.Change dev change) ⌝ }
 {
     let d = crate::devices::device_at(bus, dev);
+    let code = least(place_code(ok, bus, dev), change_code(d, change));
+    if code == 0 {
+        let next = after_change(d, change);
+        crate::done(0, crate::devices::with_device(bus, dev, next))
+    } else {
+        crate::refused(bus, code)
+    }
+}
+
+pub fn is_missing(d: Device, out: u64) -> bool
+    ensures { λ r. ⌜ r ≡ isMissing d out ⌝ }
+{
     let chip = d.chip;
     chip::outputs(chip) as u64 <= out
 }
 
-fn pin_code(ok: bool, bus: Bus, dev: u64, out: u64) -> u64
-    requires { ⌜ ok ≡ busOk bus ⌝ }
-    ensures { λ r. ⌜ r ≡ codeOf (pinRefusals bus dev out) ⌝ }
+fn question_code(d: Device, question: Question) -> u64
+    ensures { λ r. ⌜ r ≡ codeOf (questionRefusals d question) ⌝ }
 {
-    or_refused(place_code(ok, bus, dev), 9, is_missing(bus, dev, out))
+    let chip = d.chip;
+    match question {
+        Question::Lit { out, ticks } => {
+            let long = crate::units::is_too_long(d, device::wait::own_duration(chip, ticks));
+            or_refused(or_refused(0, 6, long), 9, is_missing(d, out))
+        }
+        Question::Pin(out) => or_refused(0, 9, is_missing(d, out)),
+    }
 }
 
-pub fn pin(ok: bool, bus: Bus, dev: u64, out: u64) -> Reply
-    requires { ⌜ ok ≡ busOk bus ⌝ }
-    ensures { λ r. ⌜ r ≡ pinReply bus dev out ⌝ }
+fn value_of(d: Device, question: Question) -> u64
+    requires { ⌜ codeOf (questionRefusals d question) ≡ 0 ⌝ }
+    ensures { λ r. ⌜ r ≡ valueOf d question ⌝ }
 {
-    let code = pin_code(ok, bus, dev, out);
+    let chip = d.chip;
+    match question {
+        Question::Lit { out, ticks } => crate::units::lit_value(
+            d,
+            out as u8,
+            device::wait::own_duration(chip, ticks),
+        ),
+        Question::Pin(out) => device::output::pin(d, out as u8),
+    }
+}
+
+pub fn ask(ok: bool, bus: Bus, dev: u64, question: Question) -> Reply
+    requires { ⌜ ok ≡ busOk bus ⌝ }
+    ensures { λ r. ⌜ r ≡ stepReply bus (E.Ask dev question) ⌝ }
+{
+    let d = crate::devices::device_at(bus, dev);
+    let code = least(place_code(ok, bus, dev), question_code(d, question));
     if code == 0 {
-        let value = device::output::pin(crate::devices::device_at(bus, dev), out as u8);
-        crate::done(value, bus)
+        crate::done(value_of(d, question), bus)
     } else {
         crate::refused(bus, code)
     }
@@ -121,7 +122,9 @@ fn blink_code(ok: bool, bus: Bus, dev: u64) -> u64
     requires { ⌜ ok ≡ busOk bus ⌝ }
     ensures { λ r. ⌜ r ≡ codeOf (blinkRefusals bus dev) ⌝ }
 {
-    or_refused(place_code(ok, bus, dev), 10, is_driver(bus, dev))
+    let d = crate::devices::device_at(bus, dev);
+    let chip = d.chip;
+    or_refused(place_code(ok, bus, dev), 10, chip::is_driver(chip))
 }
 
 // The blink-start question: the steps after which both blinks of a blinker begin together again.

@@ -1,119 +1,99 @@
 // START, STOP, a put and a get.
 use crate::Bus;
 use crate::Reply;
-use crate::refusal::or_refused;
+use crate::SignalEvent;
+use device::Phase;
 use protocol::Signal;
+use refusals::or_refused;
 ghost use mathlib.Core.Path.{_≡_};
+ghost use mathlib.Core.Bool.{false};
 ghost use Prim.Native.Nat.{_≤_};
+ghost use Rattle.protocol.specs.Signal.{inTurn};
+ghost use Rattle.refusals.specs.Refusals.{codeOf};
+ghost use Rattle.bus.specs.declared.Event.the-variants as E;
 ghost use Rattle.bus.specs.Bus.{busOk};
-ghost use Rattle.bus.specs.Refusals.{codeOf};
-ghost use Rattle.bus.specs.Replies.{signalRefusals, signalReply, startReply, stopReply, putRefusals, putValue, putDone, putReply, getRefusals, getDone, getReply};
+ghost use Rattle.bus.specs.Signals.{signalOf, isTooLarge, signalRefusals, putValue, signalValue};
+ghost use Rattle.bus.specs.Events.{stepReply};
 
-fn signal_code(ok: bool, bus: Bus, signal: Signal) -> u64
+// Whether it is in turn does not depend on the number that comes with it.
+fn in_turn(phase: Phase, event: SignalEvent) -> bool
+    ensures { λ r. ⌜ r ≡ inTurn phase (signalOf event) ⌝ }
+{
+    match event {
+        SignalEvent::Start => protocol::after::in_turn(phase, Signal::Start),
+        SignalEvent::Stop => protocol::after::in_turn(phase, Signal::Stop),
+        SignalEvent::Put(_) => protocol::after::in_turn(phase, Signal::Put(0)),
+        SignalEvent::Get(_) => protocol::after::in_turn(phase, Signal::Get(false)),
+    }
+}
+
+fn is_too_large(event: SignalEvent) -> bool
+    ensures { λ r. ⌜ r ≡ isTooLarge event ⌝ }
+{
+    match event {
+        SignalEvent::Start => false,
+        SignalEvent::Stop => false,
+        SignalEvent::Put(byte) => 255 < byte,
+        SignalEvent::Get(ack) => 1 < ack,
+    }
+}
+
+fn signal_of(event: SignalEvent) -> Signal
+    requires { ⌜ isTooLarge event ≡ false ⌝ }
+    ensures { λ r. ⌜ r ≡ signalOf event ⌝ }
+{
+    match event {
+        SignalEvent::Start => Signal::Start,
+        SignalEvent::Stop => Signal::Stop,
+        SignalEvent::Put(byte) => Signal::Put(byte as u8),
+        SignalEvent::Get(ack) => Signal::Get(ack == 1),
+    }
+}
+
+fn signal_code(ok: bool, bus: Bus, event: SignalEvent) -> u64
     requires { ⌜ ok ≡ busOk bus ⌝ }
-    ensures { λ r. ⌜ r ≡ codeOf (signalRefusals bus signal) ⌝ }
+    ensures { λ r. ⌜ r ≡ codeOf (signalRefusals bus event) ⌝ }
 {
     let phase = bus.phase;
-    if ok {
-        if protocol::after::in_turn(phase, signal) {
-            0
-        } else {
-            5
-        }
-    } else {
-        4
-    }
-}
-
-// A signal with no value.
-fn signalled(ok: bool, bus: Bus, signal: Signal) -> Reply
-    requires { ⌜ ok ≡ busOk bus ⌝ }
-    ensures { λ r. ⌜ r ≡ signalReply bus signal ⌝ }
-{
-    let code = signal_code(ok, bus, signal);
-    if code == 0 {
-        crate::done(0, crate::devices::after(signal, bus))
-    } else {
-        crate::refused(bus, code)
-    }
-}
-
-pub fn start(ok: bool, bus: Bus) -> Reply
-    requires { ⌜ ok ≡ busOk bus ⌝ }
-    ensures { λ r. ⌜ r ≡ startReply bus ⌝ }
-{
-    signalled(ok, bus, Signal::Start)
-}
-
-pub fn stop(ok: bool, bus: Bus) -> Reply
-    requires { ⌜ ok ≡ busOk bus ⌝ }
-    ensures { λ r. ⌜ r ≡ stopReply bus ⌝ }
-{
-    signalled(ok, bus, Signal::Stop)
-}
-
-fn put_code(ok: bool, bus: Bus, byte: u64) -> u64
-    requires { ⌜ ok ≡ busOk bus ⌝ }
-    ensures { λ r. ⌜ r ≡ codeOf (putRefusals bus byte) ⌝ }
-{
-    or_refused(signal_code(ok, bus, Signal::Put(0)), 7, 255 < byte)
+    let code = or_refused(0, 4, !ok);
+    let code = or_refused(code, 5, !in_turn(phase, event));
+    or_refused(code, 7, is_too_large(event))
 }
 
 // 1 if any device acknowledges.
-pub fn put_value(set: u64) -> u64
+fn put_value(set: u64) -> u64
     ensures { λ r. ⌜ r ≡ putValue set ⌝ }
 {
     if set == 0 { 0 } else { 1 }
 }
 
-fn put_done(bus: Bus, byte: u8) -> Reply
-    requires { ⌜ bus .count ≤ 8 ⌝ }
-    ensures { λ r. ⌜ r ≡ putDone bus byte ⌝ }
+fn signal_value(bus: Bus, event: SignalEvent) -> u64
+    requires { ⌜ (bus .count ≤ 8) × (isTooLarge event ≡ false) ⌝ }
+    ensures { λ r. ⌜ r ≡ signalValue bus event ⌝ }
 {
     let phase = bus.phase;
     let devices = bus.devices;
-    let set = crate::devices::ack_set(devices, bus.count as usize, phase, byte);
-    crate::done(
-        put_value(set),
-        crate::devices::after(Signal::Put(byte), bus),
-    )
-}
-
-pub fn put(ok: bool, bus: Bus, byte: u64) -> Reply
-    requires { ⌜ ok ≡ busOk bus ⌝ }
-    ensures { λ r. ⌜ r ≡ putReply bus byte ⌝ }
-{
-    let code = put_code(ok, bus, byte);
-    if code == 0 {
-        put_done(bus, byte as u8)
-    } else {
-        crate::refused(bus, code)
+    match event {
+        SignalEvent::Start => 0,
+        SignalEvent::Stop => 0,
+        SignalEvent::Put(byte) => put_value(crate::devices::ack_set(
+            devices,
+            bus.count as usize,
+            phase,
+            byte as u8,
+        )),
+        SignalEvent::Get(_) => crate::devices::talk(devices, bus.count as usize) as u64,
     }
 }
 
-fn get_code(ok: bool, bus: Bus, ack: u64) -> u64
+pub fn signal(ok: bool, bus: Bus, event: SignalEvent) -> Reply
     requires { ⌜ ok ≡ busOk bus ⌝ }
-    ensures { λ r. ⌜ r ≡ codeOf (getRefusals bus ack) ⌝ }
+    ensures { λ r. ⌜ r ≡ stepReply bus (E.Signal event) ⌝ }
 {
-    or_refused(signal_code(ok, bus, Signal::Get(true)), 7, 1 < ack)
-}
-
-fn get_done(bus: Bus, ack: bool) -> Reply
-    requires { ⌜ bus .count ≤ 8 ⌝ }
-    ensures { λ r. ⌜ r ≡ getDone bus ack ⌝ }
-{
-    let devices = bus.devices;
-    let byte = crate::devices::talk(devices, bus.count as usize);
-    crate::done(byte as u64, crate::devices::after(Signal::Get(ack), bus))
-}
-
-pub fn get(ok: bool, bus: Bus, ack: u64) -> Reply
-    requires { ⌜ ok ≡ busOk bus ⌝ }
-    ensures { λ r. ⌜ r ≡ getReply bus ack ⌝ }
-{
-    let code = get_code(ok, bus, ack);
+    let code = signal_code(ok, bus, event);
     if code == 0 {
-        get_done(bus, ack == 1)
+        let value = signal_value(bus, event);
+        crate::done(value, crate::devices::after(signal_of(event), bus))
     } else {
         crate::refused(bus, code)
     }

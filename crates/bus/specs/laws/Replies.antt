@@ -1,23 +1,27 @@
 -- How a call's reply comes about: by the code of its refusals, it is done or refused.
-use mathlib.Core.Path.{_≡_, sym, ap, _∙_}
-use mathlib.Core.Bool.{Bool, true, false, not, _&&_, cond, true≢false}
+use mathlib.Core.Path.{_≡_, refl, sym, ap, _∙_}
+use mathlib.Core.Bool.{true, false, not, _&&_, cond, true≢false}
 use mathlib.Core.List.{List}
 use Prim.Native.Nat.{ℕ, _≤_, _<_}
 use native.Mathlib.Omega.{arith}
 use lib.Dec.{leb, eqb}
-use borrow.Author.Tests.{eq-eqb, ne-eqb, leb-true, not-false}
+use borrow.Author.Tests.{eqb-true, eqb-false, eq-eqb, ne-eqb, leb-true, not-false}
+use Rattle.basics.specs.laws.Logic.{holds, fails, tested, and-left, and-right}
 use Rattle.chip.specs.Kinds.{isDriver}
 use Rattle.chip.specs.Addresses.{addressAllowed}
 use Rattle.chip.specs.declared.Lookup.{Lookup}
 use Rattle.chip.specs.declared.Lookup.the-variants.{Known, Unknown}
-use Rattle.chip.specs.laws.Logic.{and-left, and-right}
 use Rattle.device.specs.WellFormed.{wellFormed}
+use Rattle.refusals.specs.Refusals.{Refusal, codeOf}
+use Rattle.refusals.specs.laws.Refusals.{positive, NoneHolds, accepted, Exact, exact}
 use Rattle.bus.specs.First.{allFirst}
-use Rattle.bus.specs.Refusals.{Refusal, codeOf}
 use Rattle.bus.specs.Bus.{busOk}
-use Rattle.bus.specs.Replies.{refusedWith, answer, isUnknown, isBarred}
+use Rattle.bus.specs.Replies.{refusedWith, answer}
+use Rattle.bus.specs.Add.{isUnknown, isBarred}
 use Rattle.bus.specs.declared.Bus.{Bus}
 use Rattle.bus.specs.declared.Reply.{Reply}
+
+-- ---- a call is proved by its code, which is 0 or not
 
 pub answered : (l : List Refusal) (b : Bus) (d r : Reply) (k : ℕ) → k ≡ codeOf l → k ≡ 0 → r ≡ d → r ≡ answer l b d
 unfolding answer
@@ -27,7 +31,44 @@ pub turned-away : (l : List Refusal) (b : Bus) (d r : Reply) (k : ℕ) → k ≡
 unfolding answer
 turned-away l b d r k e z q = rw (ne-eqb (codeOf l) 0 (λ c. z (e ∙ c))) (q ∙ ap (refusedWith b) e)
 
--- a well-formed bus has at most eight devices, each well formed
+-- ---- what a reply says; that of a done call has the code 0
+
+module _ (l : List Refusal) (b : Bus) (d : Reply) where
+  done-is : codeOf l ≡ 0 → answer l b d ≡ d
+  done-is z = sym (answered l b d d (codeOf l) refl z refl)
+
+  refused-is : (codeOf l ≡ 0 → ⊥) → answer l b d ≡ refusedWith b (codeOf l)
+  refused-is n = sym (turned-away l b d (refusedWith b (codeOf l)) (codeOf l) refl n refl)
+
+  -- what holds of the bus as it was, and of the bus where no refusal holds, holds of the bus afterwards
+  pub answer-bus : (P : Bus → Type 0) → positive l ≡ true → P b → (NoneHolds l → P (d .bus)) → P (answer l b d .bus)
+  answer-bus P h p q =
+      elim (tested (eqb (codeOf l) 0)) [
+        | holds e ↦ let z = eqb-true (codeOf l) 0 e in rw (done-is z) (q (accepted l h z))
+        | fails e ↦ rw (refused-is (eqb-false (codeOf l) 0 e)) p
+      ]
+
+  module _ (zero : d .code ≡ 0) where
+    pub answer-code : answer l b d .code ≡ codeOf l
+    answer-code =
+        elim (tested (eqb (codeOf l) 0)) [
+          | holds e ↦ let z = eqb-true (codeOf l) 0 e in ap (λ (r : Reply). r .code) (done-is z) ∙ zero ∙ sym z
+          | fails e ↦ ap (λ (r : Reply). r .code) (refused-is (eqb-false (codeOf l) 0 e))
+        ]
+
+    pub answer-exact : Exact l (answer l b d .code)
+    answer-exact = exact l (answer l b d .code) answer-code
+
+    -- a code of 0 comes with no condition held, and with the reply of a done call
+    pub answer-done : positive l ≡ true → answer l b d .code ≡ 0 → NoneHolds l × (answer l b d ≡ d)
+    answer-done h c = let z = sym answer-code ∙ c in (accepted l h z, done-is z)
+
+    pub answer-refused : (answer l b d .code ≡ 0 → ⊥) → answer l b d ≡ refusedWith b (answer l b d .code)
+    answer-refused n = refused-is (λ z. n (answer-code ∙ z)) ∙ ap (refusedWith b) (sym answer-code)
+
+-- ---- what calls ask of a bus and of an address
+
+-- a well-formed bus has at most eight devices
 pub ok-count : (b : Bus) → not (busOk b) ≡ false → b .count ≤ 8
 unfolding busOk
 ok-count b e =
@@ -38,8 +79,9 @@ ok-count b e =
 pub allowed-byte : (found : Lookup) (address : ℕ) → isUnknown found ≡ false → isBarred found address ≡ false → address < 256
 unfolding addressAllowed
 allowed-byte Unknown address u e = absurd (true≢false u)
-allowed-byte (Known chip) address u e = go (isDriver chip) (not-false (addressAllowed chip address) e)
-  where
-    go : (b : Bool) → cond b (not (eqb address 3) && not (eqb address 112) && leb address 127) (leb address 7) ≡ true → address < 256
-    go true h = omega (arith, leb-true address 127 (and-right (not (eqb address 3) && not (eqb address 112)) (leb address 127) h))
-    go false h = omega (arith, leb-true address 7 h)
+allowed-byte (Known chip) address u e =
+    let h = not-false (addressAllowed chip address) e in
+    elim (tested (isDriver chip)) [
+      | holds t ↦ omega (arith, leb-true address 127 (and-right (not (eqb address 3) && not (eqb address 112)) (leb address 127) (rw t at h)))
+      | fails t ↦ omega (arith, leb-true address 7 (rw t at h))
+    ]

@@ -72,6 +72,11 @@ unfolding codeOf
 refused-more l number b code k on p q e =
     refused-both l (refuse number b ∷ []) code (numberOf (refuse number b)) k p (sym (least-zero (numberOf (refuse number b)))) (rw q at e)
 
+-- the code of one refusal
+pub refused-first : (number : ℕ) (b : Bool) (k : ℕ) (on : Bool) → on ≡ b → k ≡ least 0 (numberOf (refuse number on)) → k ≡ codeOf (refuse number b ∷ [])
+unfolding codeOf
+refused-first number b k on q e = refused-more [] number b 0 k on refl q e
+
 -- ---- a code of 0
 
 -- no number of a list is 0, which would say that nothing is refused

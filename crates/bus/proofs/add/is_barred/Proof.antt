@@ -1,3 +1,4 @@
+-- An address is barred by the kind of the chip.
 use borrow.Author.Needs.{needs}
 use Rattle.bus.proofs.add.is_barred.Statement.{statement}
 use Rattle.bus.proofs.add.is_barred.Tie as tie
@@ -6,5 +7,4 @@ returns : tie.Need-returns
 returns c = simp (c .address-allowed .ensures, c .before .before .found .given .1)
 
 pub is-barred-spec : {M : Type 1} → statement M
-is-barred-spec =
-    tie.close (tie.spec (λ c. search needs) (λ c κs. search needs) (λ c. search needs) returns (λ c. search needs))
+is-barred-spec = tie.close (tie.spec (λ c. search needs) (λ c κs. search needs) (λ c. search needs) returns (λ c. search needs))

@@ -1,0 +1,10 @@
+-- A further device stands at the next free place.
+use borrow.Author.Needs.{needs}
+use Rattle.bus.proofs.devices.with_added.Statement.{statement}
+use Rattle.bus.proofs.devices.with_added.Tie as tie
+
+returns : tie.Need-returns
+returns c = simp (c .before .with-element .ensures)
+
+pub with-added-spec : {M : Type 1} → statement M
+with-added-spec = tie.close (tie.spec (λ c. search needs) (λ c κs. search needs) (λ c. search needs) returns)

@@ -1,0 +1,46 @@
+-- By its code, which is that of the position and of the change, the device changed or a refusal.
+use mathlib.Core.Path.{refl, sym, ap, _∙_}
+use Rattle.refusals.specs.laws.Refusals.{least-none, refused-both}
+use Rattle.refusals.specs.Refusals.{codeOf}
+use Rattle.bus.specs.laws.Replies.{answered, turned-away}
+use Rattle.bus.specs.Bus.{deviceAt}
+use Rattle.bus.specs.Place.{placeRefusals, changeRefusals}
+use Rattle.bus.specs.Events.{stepRefusals, stepDone, stepReply}
+use borrow.Author.Needs.{needs}
+use Rattle.bus.proofs.place.change.Statement.{statement}
+use Rattle.bus.proofs.place.change.Tie as tie
+
+after-change-requires : tie.Need-after-change-requires
+after-change-requires c κs =
+    let own = c .before .before in
+    sym (own .change-code .ensures) ∙ least-none _ _ (sym (c .before .least .ensures) ∙ c .if1 .taken) .1
+
+returns : tie.Need-returns
+unfolding stepReply stepRefusals stepDone
+returns c =
+    let next = c .before .before in
+    let code = next .before .before in
+    let own = code .before in
+    let there = own .before in
+    let d = there .before .device-at .ensures in
+    let a = there .before .before .args in
+    answered _ _ _ _ _
+    (refused-both (placeRefusals (a .bus) (a .dev)) (changeRefusals (deviceAt (a .bus) (a .dev)) (a .change)) _ _ _ (there .place-code .ensures) (own .change-code .ensures ∙ ap (λ x. codeOf (changeRefusals x (a .change))) d) (code .least .ensures))
+    (next .before .if1 .taken)
+    (simp (c .done .ensures, c .before .with-device .ensures, next .after-change .ensures, d))
+
+returns-2 : tie.Need-returns-2
+unfolding stepReply stepRefusals
+returns-2 c =
+    let code = c .before .before in
+    let own = code .before in
+    let there = own .before in
+    let d = there .before .device-at .ensures in
+    let a = there .before .before .args in
+    turned-away _ _ _ _ _
+    (refused-both (placeRefusals (a .bus) (a .dev)) (changeRefusals (deviceAt (a .bus) (a .dev)) (a .change)) _ _ _ (there .place-code .ensures) (own .change-code .ensures ∙ ap (λ x. codeOf (changeRefusals x (a .change))) d) (code .least .ensures))
+    (c .before .if1 .left)
+    (c .refused .ensures)
+
+pub change-spec : {M : Type 1} → statement M
+change-spec = tie.close (tie.spec (λ c κs. search needs) (λ c κs. search needs) (λ c κs. search needs) (λ c κs. search needs) after-change-requires (λ c κs. search needs) (λ c κs. search needs) (λ c κs. search needs) returns returns-2)
