@@ -17,10 +17,10 @@ use Rattle.chip.specs.Addresses.{addressAllowed}
 use Rattle.chip.specs.declared.Chip.the-variants.{Pca9635}
 use Rattle.chip.specs.declared.Lookup.{Lookup}
 use Rattle.chip.specs.declared.Lookup.the-variants.{Known, Unknown}
-use Rattle.chip.specs.laws.Logic.{and-left, and-right, by-cases}
+use Rattle.basics.specs.laws.Logic.{and-left, and-right}
 use Rattle.device.specs.Fields.{withOe, withLevels}
 use Rattle.device.specs.Reset.{fresh, resetOf}
-use Rattle.device.specs.Bits.{mask, maskFirst}
+use Rattle.basics.specs.Bits.{mask, maskFirst}
 use Rattle.device.specs.Wait.{waitedOf, isOwn}
 use Rattle.device.specs.WellFormed.{wellFormed}
 use Rattle.device.specs.Promises.{fresh-well, reset-well, oe-well, levels-well, waited-well}
@@ -32,14 +32,14 @@ use Rattle.protocol.specs.Signal.{inTurn, phaseAfterSignal, deviceAfter}
 use Rattle.protocol.specs.Promises.{signal-well}
 use Rattle.protocol.specs.declared.Signal.{Signal}
 use Rattle.protocol.specs.declared.Signal.the-variants as S
-use Rattle.bus.specs.First.{allFirst}
+use Rattle.basics.specs.First.{allFirst}
 use Rattle.bus.specs.Refusals.{Refusal, codeOf, holdsAt, risesFrom}
 use Rattle.bus.specs.Bus.{busOk, hasDevice, deviceAt, withDevice, withAdded, busAfter, emptyBus}
 use Rattle.bus.specs.Replies.{blinkRefusals, blinkDone, blinkReply, refusedWith, answer, signalReply, putRefusals, putValue, putDone, putReply, getReply, isBarred, addedTo, addReply, waitReply, oeReply, extReply, resetReply, litReply, pinReply}
 use Rattle.bus.specs.Units.{isForeign, waitForRefusals, waitForDone, waitForReply, litForRefusals, litForDone, litForReply}
 use Rattle.bus.specs.laws.Units.{own-wait, own-lit}
 use Rattle.bus.specs.Events.{numberedReply, stepReply, stepRefusals, stepDone, runBus}
-use Rattle.bus.specs.laws.First.{all-at, all-set, all-added, all-mapped, empty-none, none-empty}
+use Rattle.basics.specs.laws.First.{all-at, all-set, all-added, all-mapped, empty-none, none-empty}
 use Rattle.bus.specs.laws.Refusals.{NoneHolds, none-at, accepted, Exact, exact}
 use Rattle.bus.specs.declared.Bus.{Bus}
 use Rattle.bus.specs.declared.Event.{Event}
@@ -163,20 +163,24 @@ blink-refused b dev n = answer-refused (blinkRefusals b dev) b (blinkDone b dev)
 abbrev pub IsNumbered : Bus → Reply → Type 0
 IsNumbered b r = ((e : Event) × (r ≡ stepReply b e)) ⊎ (r ≡ refusedWith b 4)
 
+choice : (b : Bus) (t : Bool) (e : Event) (r : Reply) → IsNumbered b r → IsNumbered b (cond t (stepReply b e) r)
+choice b true e r rest = inl (e, refl)
+choice b false e r rest = rest
+
 pub numbered-is : (b : Bus) (number x y z : ℕ) → IsNumbered b (numberedReply b number x y z)
 unfolding numberedReply stepReply
 numbered-is b number x y z =
-    by-cases (IsNumbered b) (eqb number 1) _ _ (λ h. inl (Add x y, refl)) (λ h.
-    by-cases (IsNumbered b) (eqb number 2) _ _ (λ h. inl (Start, refl)) (λ h.
-    by-cases (IsNumbered b) (eqb number 3) _ _ (λ h. inl (Put x, refl)) (λ h.
-    by-cases (IsNumbered b) (eqb number 4) _ _ (λ h. inl (Get x, refl)) (λ h.
-    by-cases (IsNumbered b) (eqb number 5) _ _ (λ h. inl (Stop, refl)) (λ h.
-    by-cases (IsNumbered b) (eqb number 6) _ _ (λ h. inl (Wait x y, refl)) (λ h.
-    by-cases (IsNumbered b) (eqb number 7) _ _ (λ h. inl (Oe x y, refl)) (λ h.
-    by-cases (IsNumbered b) (eqb number 8) _ _ (λ h. inl (Ext x y, refl)) (λ h.
-    by-cases (IsNumbered b) (eqb number 9) _ _ (λ h. inl (Reset x, refl)) (λ h.
-    by-cases (IsNumbered b) (eqb number 10) _ _ (λ h. inl (Lit x y z, refl)) (λ h.
-    by-cases (IsNumbered b) (eqb number 11) _ _ (λ h. inl (Pin x y, refl)) (λ h. inr refl)))))))))))
+    choice b (eqb number 1) (Add x y) _ (
+    choice b (eqb number 2) Start _ (
+    choice b (eqb number 3) (Put x) _ (
+    choice b (eqb number 4) (Get x) _ (
+    choice b (eqb number 5) Stop _ (
+    choice b (eqb number 6) (Wait x y) _ (
+    choice b (eqb number 7) (Oe x y) _ (
+    choice b (eqb number 8) (Ext x y) _ (
+    choice b (eqb number 9) (Reset x) _ (
+    choice b (eqb number 10) (Lit x y z) _ (
+    choice b (eqb number 11) (Pin x y) _ (inr refl)))))))))))
 
 -- ---- wait and lit in a unit
 

@@ -18,8 +18,8 @@ use Rattle.protocol.specs.Read.{talkOf}
 use Rattle.protocol.specs.Signal.{isOpen, inTurn}
 use Rattle.protocol.specs.declared.Signal.{Signal}
 use Rattle.protocol.specs.declared.Signal.the-variants as S
-use Rattle.device.specs.Bits.{maskFirst}
-use Rattle.bus.specs.First.{andFirst}
+use Rattle.basics.specs.Bits.{maskFirst}
+use Rattle.basics.specs.First.{andFirst}
 use Rattle.bus.specs.Refusals.{Refusal, refuse, codeOf}
 use Rattle.bus.specs.Bus.{busOk, hasDevice, deviceAt, withDevice, withAdded, busAfter}
 use Rattle.bus.specs.declared.Bus.{Bus}

@@ -1,4 +1,3 @@
-pub mod First
 pub mod Refusals
 pub mod Replies
 pub mod Units

@@ -8,7 +8,7 @@ use native.Mathlib.Nat.{eq-or-lt-of-le}
 use native.Mathlib.Omega.{arith}
 use lib.Dec.{ltb, eqb}
 use borrow.Author.Tests.{ltb-true, ltb-false, eq-eqb, ne-eqb}
-use Rattle.chip.specs.laws.Logic.{and-left, and-right}
+use Rattle.basics.specs.laws.Logic.{and-left, and-right}
 use Rattle.bus.specs.Refusals.{Refusal, refuse, codeOf, orRefused, holdsAt, risesFrom}
 
 abbrev pub NoneHolds : List Refusal → Type 0

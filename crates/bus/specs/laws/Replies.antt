@@ -10,9 +10,9 @@ use Rattle.chip.specs.Kinds.{isDriver}
 use Rattle.chip.specs.Addresses.{addressAllowed}
 use Rattle.chip.specs.declared.Lookup.{Lookup}
 use Rattle.chip.specs.declared.Lookup.the-variants.{Known, Unknown}
-use Rattle.chip.specs.laws.Logic.{and-left, and-right}
+use Rattle.basics.specs.laws.Logic.{and-left, and-right}
 use Rattle.device.specs.WellFormed.{wellFormed}
-use Rattle.bus.specs.First.{allFirst}
+use Rattle.basics.specs.First.{allFirst}
 use Rattle.bus.specs.Refusals.{Refusal, codeOf}
 use Rattle.bus.specs.Bus.{busOk}
 use Rattle.bus.specs.Replies.{refusedWith, answer, isUnknown, isBarred}
