@@ -1,1 +1,4 @@
+pub mod Bits
+pub mod First
+pub mod Tabulate
 pub mod laws

@@ -1,1 +1,6 @@
 pub mod Logic
+pub mod Table
+pub mod Lists
+pub mod Tabulate
+pub mod Bits
+pub mod First

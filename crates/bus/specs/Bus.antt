@@ -10,7 +10,7 @@ use Rattle.device.specs.declared.Device.{Device}
 use Rattle.device.specs.declared.Phase.the-variants.{Idle}
 use Rattle.protocol.specs.Signal.{phaseAfterSignal, deviceAfter}
 use Rattle.protocol.specs.declared.Signal.{Signal}
-use Rattle.bus.specs.First.{mapFirst, allFirst}
+use Rattle.basics.specs.First.{mapFirst, allFirst}
 use Rattle.bus.specs.declared.Bus.{Bus}
 
 -- at most 8 devices, each well formed in the message's phase; places past the count hold no device

@@ -1,4 +1,3 @@
-pub mod First
 pub mod Bus
 pub mod Replies
 pub mod Add

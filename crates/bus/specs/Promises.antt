@@ -11,20 +11,20 @@ use borrow.Author.Tests.{not-false}
 use Rattle.basics.specs.laws.Logic.{holds, fails, tested}
 use Rattle.lamp.specs.Duration.{amount}
 use Rattle.lamp.specs.declared.Duration.{Duration}
-use Rattle.device.specs.Bits.{mask, maskFirst}
+use Rattle.basics.specs.Bits.{mask, maskFirst}
 use Rattle.device.specs.Blink.{commonStartOf}
 use Rattle.device.specs.Output.{litFor}
 use Rattle.device.specs.Wait.{isOwn, waitedFor}
 use Rattle.protocol.specs.Put.{acksTo}
 use Rattle.refusals.specs.Refusals.{codeOf}
 use Rattle.refusals.specs.laws.Refusals.{Exact}
-use Rattle.bus.specs.First.{allFirst}
+use Rattle.basics.specs.First.{allFirst}
 use Rattle.bus.specs.Bus.{busOk, deviceAt, withDevice, emptyBus}
 use Rattle.bus.specs.Replies.{refusedWith, doneWith}
 use Rattle.bus.specs.Place.{blinkRefusals, blinkReply}
 use Rattle.bus.specs.Units.{isForeign, waitForRefusals, waitForReply, litForRefusals, litForReply}
 use Rattle.bus.specs.Events.{stepReply, stepRefusals, stepDone, putReply, waitReply, litReply, requestReply, eventNumbered, numberedReply, runBus}
-use Rattle.bus.specs.laws.First.{empty-none, none-empty}
+use Rattle.basics.specs.laws.First.{empty-none, none-empty}
 use Rattle.bus.specs.laws.Replies.{answer-bus, answer-code, answer-exact, answer-done, answer-refused}
 use Rattle.bus.specs.laws.Signals.{value-none}
 use Rattle.bus.specs.laws.Units.{own-wait, own-lit}

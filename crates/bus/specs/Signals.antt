@@ -3,14 +3,14 @@ use Prim.Native.Nat.{ℕ}
 use mathlib.Core.Bool.{Bool, false, not, cond}
 use mathlib.Core.List.{List, [], _∷_}
 use lib.Dec.{ltb, eqb}
-use Rattle.device.specs.Bits.{maskFirst}
+use Rattle.basics.specs.Bits.{maskFirst}
 use Rattle.protocol.specs.Put.{acksTo}
 use Rattle.protocol.specs.Read.{talkOf}
 use Rattle.protocol.specs.Signal.{inTurn}
 use Rattle.protocol.specs.declared.Signal.{Signal}
 use Rattle.protocol.specs.declared.Signal.the-variants as P
 use Rattle.refusals.specs.Refusals.{Refusal, refuse}
-use Rattle.bus.specs.First.{andFirst}
+use Rattle.basics.specs.First.{andFirst}
 use Rattle.bus.specs.Bus.{busOk}
 use Rattle.bus.specs.declared.Bus.{Bus}
 use Rattle.bus.specs.declared.SignalEvent.{SignalEvent}

@@ -1,4 +1,3 @@
-pub mod First
 pub mod Place
 pub mod Replies
 pub mod Signals

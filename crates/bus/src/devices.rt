@@ -9,13 +9,13 @@ ghost use mathlib.Core.Bool.{cond};
 ghost use Prim.Native.Nat.{_≤_, _<_};
 ghost use lib.ListN.{getD, set};
 ghost use Rattle.chip.specs.declared.Chip.the-variants.{Pca9635};
-ghost use Rattle.device.specs.Bits.{maskFirst};
+ghost use Rattle.basics.specs.Bits.{maskFirst};
 ghost use Rattle.device.specs.Reset.{fresh};
 ghost use Rattle.device.specs.WellFormed.{wellFormed};
 ghost use Rattle.protocol.specs.Put.{acksTo};
 ghost use Rattle.protocol.specs.Read.{talkOf};
 ghost use Rattle.protocol.specs.Signal.{deviceAfter};
-ghost use Rattle.bus.specs.First.{mapFirst, allFirst, andFirst};
+ghost use Rattle.basics.specs.First.{mapFirst, allFirst, andFirst};
 ghost use Rattle.bus.specs.Bus.{busOk, hasDevice, deviceAt, withDevice, withAdded, busAfter, emptyBus};
 
 // A bus with no device and no message.

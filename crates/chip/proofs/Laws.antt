@@ -1,10 +1,9 @@
 -- Facts about the chips that several proofs cite.
-use mathlib.Core.Path.{_≡_, refl}
-use mathlib.Core.Bool.{Bool, true, false, cond}
-use Prim.Native.Nat.{ℕ, _+_, _≤_, _<_}
+use Prim.Native.Nat.{ℕ, _≤_, _<_}
 use native.Mathlib.Omega.{arith}
 use lib.Dec.{leb, eqb, lit≤, lit<}
 use borrow.Author.Tests.{leb-false}
+use Rattle.basics.specs.laws.Logic.{tested, holds, fails, cond-below}
 use Rattle.chip.specs.Kinds.{outputsOf}
 use Rattle.chip.specs.Registers.{allcalladr}
 use Rattle.chip.specs.Control.{optionLast, nextRegister}
@@ -17,18 +16,13 @@ outputs-few Pca9634 = lit≤ tt
 outputs-few Pca9531 = lit≤ tt
 outputs-few Pca9551 = lit≤ tt
 
-cond-below : {k : ℕ} (b : Bool) {x y : ℕ} → x < k → y < k → cond b x y < k
-cond-below true h h′ = h
-cond-below false h h′ = h′
-
 -- the pointer's next register has five bits, so that the option keeps its own
 pub next-register-below : (chip : Chip) (o r : ℕ) → nextRegister (outputsOf chip) o r < 32
 next-register-below chip o r =
     let few : outputsOf chip ≤ 16 = outputs-few chip in
     cond-below (eqb r (optionLast (outputsOf chip) o))
     (cond-below (eqb o 5) (lit< tt) (cond-below (eqb o 6) (omega arith) (cond-below (eqb o 7) (lit< tt) (lit< tt))))
-    (further few (leb (allcalladr (outputsOf chip)) r) refl)
-  where
-    further : outputsOf chip ≤ 16 → (b : Bool) → leb (allcalladr (outputsOf chip)) r ≡ b → cond b 0 (r + 1) < 32
-    further few true e = lit< tt
-    further few false e = omega (arith, leb-false (allcalladr (outputsOf chip)) r e)
+    (elim (tested (leb (allcalladr (outputsOf chip)) r)) [
+      | holds e ↦ rw e (lit< tt)
+      | fails e ↦ rw e (omega (arith, leb-false (allcalladr (outputsOf chip)) r e))
+    ])

@@ -3,5 +3,4 @@ pub mod Registers
 pub mod Addresses
 pub mod Control
 pub mod Values
-pub mod laws
 pub mod Promises

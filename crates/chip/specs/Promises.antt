@@ -10,8 +10,8 @@ use Rattle.chip.specs.Kinds.{numberOf, chipNumbered}
 use Rattle.chip.specs.Registers.{registerMap}
 use Rattle.chip.specs.Control.{option, controlLegal, controlMoved}
 use Rattle.chip.specs.Values.{resetControl}
-use Rattle.chip.specs.laws.Logic.{and-left, and-right, or-cases}
-use Rattle.chip.specs.laws.Table.{allBelow, at, same, follows}
+use Rattle.basics.specs.laws.Logic.{and-left, and-right, or-cases}
+use Rattle.basics.specs.laws.Table.{allBelow, at, same, follows}
 use Rattle.chip.specs.declared.Chip.{Chip}
 use Rattle.chip.specs.declared.Chip.the-variants.{Pca9635, Pca9634, Pca9531, Pca9551}
 use Rattle.chip.specs.declared.Lookup.the-variants.{Known}

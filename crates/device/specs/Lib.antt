@@ -1,7 +1,6 @@
 pub mod Fields
 pub mod Reset
 pub mod Registers
-pub mod Bits
 pub mod Wait
 pub mod Output
 pub mod Blink

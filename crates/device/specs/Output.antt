@@ -15,7 +15,7 @@ use Rattle.chip.specs.Kinds.{isDriver, outputsOf}
 use Rattle.chip.specs.Registers.{pwm0, grppwm, grpfreq, ledout0, psc0, blinkPwm0, ls0}
 use Rattle.chip.specs.declared.Chip.{Chip}
 use Rattle.chip.specs.declared.Chip.the-variants.{Pca9635, Pca9634, Pca9531, Pca9551}
-use Rattle.device.specs.Bits.{maskFirst}
+use Rattle.basics.specs.Bits.{maskFirst}
 use Rattle.device.specs.Registers.{bit, held, inEffect, isAwake, isBlinking, isInverted, isTotemPole, outne}
 use Rattle.device.specs.Wait.{isOwn}
 use Rattle.device.specs.declared.Device.{Device}

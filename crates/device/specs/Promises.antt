@@ -6,7 +6,7 @@ use lib.Dec.{leb}
 use Rattle.lamp.specs.Window.{countLimit}
 use Rattle.chip.specs.Addresses.{addressAllowed}
 use Rattle.chip.specs.Promises.{reset-legal}
-use Rattle.chip.specs.laws.Logic.{by-cases}
+use Rattle.basics.specs.laws.Logic.{tested, holds, fails}
 use Rattle.chip.specs.declared.Chip.{Chip}
 use Rattle.device.specs.Fields.{withCount, withOe, withLevels}
 use Rattle.device.specs.Registers.{isAwake}
@@ -34,13 +34,13 @@ levels-well p levels d h = well p (withLevels d levels) (ok d (well-formed-ok p 
 advanced-within : (t w : ℕ) → leb t countLimit ≡ true → leb (advanced t w) countLimit ≡ true
 unfolding advanced
 advanced-within t w h =
-    by-cases (λ (n : ℕ). leb n countLimit ≡ true) (leb (t + w) countLimit) (t + w) t (λ e. e) (λ e. h)
+    elim (tested (leb (t + w) countLimit)) [ holds e ↦ rw (e, e) | fails e ↦ rw e h ]
 
 pub waited-well : (p : Phase) (w : ℕ) (d : Device) → wellFormed p d ≡ true → wellFormed p (waitedOf d w) ≡ true
 unfolding waitedOf
 waited-well p w d h =
     let o = ok d (well-formed-ok p d h) in
-    let next = withCount d (advanced (d .count) w) in
-    by-cases (WellIn p) (isAwake d) next d
-    (λ e. well p next (record { legal = o .legal; allowed = o .allowed; within = advanced-within (d .count) w (o .within) }) (fits p d h))
-    (λ e. h)
+    elim (tested (isAwake d)) [
+      | holds e ↦ rw e (well p (withCount d (advanced (d .count) w)) (record { legal = o .legal; allowed = o .allowed; within = advanced-within (d .count) w (o .within) }) (fits p d h))
+      | fails e ↦ rw e h
+    ]

@@ -7,8 +7,8 @@ use lib.Dec.{eqb}
 use Rattle.blink.specs.Start.{euclid, gcdOf, lcmOf, commonStart}
 use Rattle.bus.specs.Bus.{emptyBus, busOk}
 use Rattle.bus.specs.Events.{stepReply, stepRefusals, stepDone, numberedReply}
-use Rattle.device.specs.Bits.{maskFirst}
-use Rattle.bus.specs.First.{mapFirst, allFirst, andFirst}
+use Rattle.basics.specs.Bits.{maskFirst}
+use Rattle.basics.specs.First.{mapFirst, allFirst, andFirst}
 use Rattle.bus.specs.Refusals.{codeOf}
 use Rattle.bus.specs.Replies.{answer, signalReply, putReply, getReply, addReply, waitReply, oeReply, extReply, resetReply, litReply, pinReply, blinkReply}
 use Rattle.chip.specs.Addresses.{addressAllowed}
@@ -27,7 +27,8 @@ use Rattle.protocol.specs.Put.{heardBy, acksTo}
 use Rattle.protocol.specs.Read.{registerByte, pointedByte, talkOf, movedOn, gottenFrom}
 use Rattle.protocol.specs.Selection.{ownAddress, answersShared, answers, stageAfter}
 use Rattle.protocol.specs.Signal.{phaseAfterSignal, deviceAfter}
-use Rattle.protocol.specs.Stop.{tabulate, committed, effectOfStop, stoppedOf}
+use Rattle.basics.specs.Tabulate.{tabulate}
+use Rattle.protocol.specs.Stop.{committed, effectOfStop, stoppedOf}
 use Rattle.protocol.specs.Write.{pointedAt, newByte, effectiveAfter, wakes, countAfter, storedIn, takenBy, acksData}
 use Rattle.bus.specs.declared.Bus.{Bus}
 use Rattle.bus.specs.declared.Event.{Event}

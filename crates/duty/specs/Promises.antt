@@ -13,7 +13,7 @@ use Rattle.lamp.specs.Promises.{individual-duty, dimmed-duty}
 use Rattle.lamp.specs.declared.DriverMode.{DriverMode}
 use Rattle.lamp.specs.declared.DriverMode.the-variants as Mode
 use Rattle.chip.specs.Kinds.{isDriver, outputsOf}
-use Rattle.chip.specs.laws.Logic.{neither}
+use Rattle.basics.specs.laws.Logic.{neither}
 use Rattle.device.specs.Registers.{isAwake}
 use Rattle.device.specs.Output.{driverOutput, lampLit, litOf}
 use Rattle.device.specs.Wait.{overruns}

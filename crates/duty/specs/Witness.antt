@@ -12,7 +12,7 @@ use Rattle.chip.specs.Registers.{mode1, pwm0, grppwm, ledout0, subadr1, isBuffe
 use Rattle.chip.specs.Addresses.{addressAllowed}
 use Rattle.chip.specs.Values.{resetRegisters}
 use Rattle.chip.specs.Promises.{reset-legal}
-use Rattle.chip.specs.laws.Table.{at}
+use Rattle.basics.specs.laws.Table.{at}
 use Rattle.chip.specs.declared.Chip.{Chip}
 use Rattle.chip.specs.declared.Chip.the-variants.{Pca9635, Pca9634, Pca9531, Pca9551}
 use Rattle.device.specs.Fields.{withCount, withWritten, withEffective}
@@ -22,9 +22,9 @@ use Rattle.device.specs.Output.{pairOf, ledoutOf}
 use Rattle.device.specs.laws.WellFormed.{well}
 use Rattle.device.specs.declared.Device.{Device}
 use Rattle.device.specs.declared.Phase.the-variants.{Idle}
-use Rattle.protocol.specs.Stop.{tabulate}
-use Rattle.protocol.specs.laws.Lists.{getD-tabulate}
-use Rattle.bus.specs.First.{allFirst}
+use Rattle.basics.specs.Tabulate.{tabulate}
+use Rattle.basics.specs.laws.Tabulate.{getD-tabulate}
+use Rattle.basics.specs.First.{allFirst}
 use Rattle.bus.specs.Bus.{busOk, deviceAt}
 use Rattle.duty.specs.Output.{Output, Individual, Dimmed, Stands}
 use Rattle.bus.specs.declared.Bus.{Bus}

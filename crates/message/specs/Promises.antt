@@ -9,8 +9,8 @@ use lib.Dec.{eqb}
 use lib.ListN.{length, take, drop, length-append, length-drop}
 use lib.Seq.{length-take-le, take-at, drop-at}
 use borrow.Author.Tests.{eqb-true}
-use Rattle.chip.specs.laws.Logic.{by-cases}
-use Rattle.bus.specs.First.{all}
+use Rattle.basics.specs.laws.Logic.{tested, holds, fails}
+use Rattle.basics.specs.First.{all}
 use Rattle.bus.specs.Refusals.{Refusal, codeOf, risesFrom}
 use Rattle.bus.specs.Bus.{busOk}
 use Rattle.bus.specs.Replies.{refusedWith, answer}
@@ -115,8 +115,8 @@ module _ (b : Bus) (address control n place : ℕ) (buffer : List ℕ) where
   afterwards : (P : List ℕ → Type 0) → P buffer → (place + n ≤ length buffer → P (stored b address control n place buffer)) → P (bufferAfter b address control n place buffer)
   unfolding bufferAfter
   afterwards P p q =
-      by-cases P (eqb (readReply b address control n place (length buffer) .code) 0) (stored b address control n place buffer) buffer
-      (λ e. q (accepted-fits (eqb-true (readReply b address control n place (length buffer) .code) 0 e))) (λ e. p)
+      let code = readReply b address control n place (length buffer) .code in
+      elim (tested (eqb code 0)) [ holds e ↦ rw e (q (accepted-fits (eqb-true code 0 e))) | fails e ↦ rw e p ]
 
   got-n : length (bytesGot b address control n) ≡ n
   unfolding valuesOf

@@ -11,7 +11,8 @@ use borrow.Author.Tests.{eq-eqb, ne-eqb, ltb-true}
 use Rattle.chip.specs.Kinds.{isDriver, outputsOf}
 use Rattle.chip.specs.Registers.{mode1, pwm0, subadr1, allcalladr, inBuffer, isBuffered}
 use Rattle.chip.specs.Control.{controlLegal, controlMoved}
-use Rattle.chip.specs.laws.Logic.{and-right, by-cases}
+use Rattle.basics.specs.laws.Tabulate.{getD-tabulate}
+use Rattle.basics.specs.laws.Logic.{tested, holds, fails, and-right}
 use Rattle.chip.specs.declared.Chip.{Chip}
 use Rattle.chip.specs.declared.Chip.the-variants.{Pca9635, Pca9634, Pca9531, Pca9551}
 use Rattle.device.specs.Fields.{withStage, withControl}
@@ -27,7 +28,6 @@ use Rattle.protocol.specs.Put.{isSelected, heardBy, acksTo}
 use Rattle.protocol.specs.Read.{isTalking, movedOn, gottenFrom}
 use Rattle.protocol.specs.Stop.{committedAt, committed, effectOfStop, tookReset, stoppedOf}
 use Rattle.protocol.specs.Signal.{phaseAfterSignal, deviceAfter}
-use Rattle.protocol.specs.laws.Lists.{getD-tabulate}
 use Rattle.protocol.specs.declared.Signal.{Signal}
 use Rattle.protocol.specs.declared.Signal.the-variants.{Start, Stop, Put, Get}
 
@@ -73,8 +73,7 @@ stored-same byte d o = rw (o, and-false (isBuffered (d .chip) (pointer d) && isA
 
 pointed-same : (byte : ℕ) (d : Device) → pointedAt byte d .effective ≡ d .effective
 unfolding pointedAt
-pointed-same byte d =
-    by-cases (λ (x : Device). x .effective ≡ d .effective) (controlLegal (d .chip) byte) (withControl (withStage d Data) byte) (withStage d Unselected) (λ e. refl) (λ e. refl)
+pointed-same byte d = elim (tested (controlLegal (d .chip) byte)) [ holds e ↦ rw e | fails e ↦ rw e ]
 
 taken-same : (byte : ℕ) (d : Device) (s : Stage) → isOch d ≡ false → takenAt s byte d .effective ≡ d .effective
 taken-same byte d Unselected o = refl
@@ -95,7 +94,7 @@ put-same P.Ended byte d o = refl
 
 moved-same : (d : Device) → movedOn d .effective ≡ d .effective
 unfolding movedOn
-moved-same d = by-cases (λ (x : Device). x .effective ≡ d .effective) (isTalking (d .stage)) (withControl d (controlMoved (d .chip) (d .control))) d (λ e. refl) (λ e. refl)
+moved-same d = elim (tested (isTalking (d .stage))) [ holds e ↦ rw e | fails e ↦ rw e ]
 
 get-same : (ack : Bool) (d : Device) → gottenFrom ack d .effective ≡ d .effective
 unfolding gottenFrom

@@ -4,6 +4,5 @@ pub mod Put
 pub mod Read
 pub mod Stop
 pub mod Signal
-pub mod laws
 pub mod Promises
 pub mod Guarantees

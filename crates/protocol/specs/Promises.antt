@@ -7,7 +7,7 @@ use Rattle.lamp.specs.Window.{countLimit}
 use Rattle.chip.specs.Kinds.{isDriver, outputsOf}
 use Rattle.chip.specs.Control.{controlLegal, controlMoved}
 use Rattle.chip.specs.Promises.{moved-legal}
-use Rattle.chip.specs.laws.Logic.{by-cases}
+use Rattle.basics.specs.laws.Logic.{tested, holds, fails}
 use Rattle.device.specs.Fields.{withStage, withControl, withEffective}
 use Rattle.device.specs.Registers.{isAwake}
 use Rattle.device.specs.Reset.{resetOf}
@@ -53,9 +53,10 @@ addressed-well byte d h =
 pointed-well : (byte : ℕ) (d : Device) → recordOk d ≡ true → WellIn P.Write (pointedAt byte d)
 unfolding pointedAt
 pointed-well byte d h =
-    by-cases (WellIn P.Write) (controlLegal (d .chip) byte) (withControl (withStage d Data) byte) (withStage d Unselected)
-    (λ e. well P.Write (withControl (withStage d Data) byte) (record { legal = e; allowed = ok d h .allowed; within = ok d h .within }) refl)
-    (λ e. well P.Write (withStage d Unselected) (ok d h) refl)
+    elim (tested (controlLegal (d .chip) byte)) [
+      | holds e ↦ rw e (well P.Write (withControl (withStage d Data) byte) (record { legal = e; allowed = ok d h .allowed; within = ok d h .within }) refl)
+      | fails e ↦ rw e (well P.Write (withStage d Unselected) (ok d h) refl)
+    ]
 
 stored-well : (byte : ℕ) (d : Device) → WellIn P.Write d → WellIn P.Write (storedIn byte d)
 unfolding storedIn countAfter
@@ -65,15 +66,16 @@ stored-well byte d h =
     record {
       legal = moved-legal (d .chip) (d .control) (o .legal);
       allowed = o .allowed;
-      within = by-cases (λ (n : ℕ). leb n countLimit ≡ true) (wakes byte d) 0 (d .count) (λ e. zero-within) (λ e. o .within);
+      within = elim (tested (wakes byte d)) [ holds e ↦ rw e zero-within | fails e ↦ rw e (o .within) ];
     }
     ) (fits P.Write d h)
 
 call-well : (due byte : ℕ) (d : Device) (s : Stage) → recordOk d ≡ true → stageFits P.Write s ≡ true → WellIn P.Write (withStage d (cond (isCallByte due byte d) s Unselected))
 call-well due byte d s h f =
-    by-cases (λ (x : Stage). WellIn P.Write (withStage d x)) (isCallByte due byte d) s Unselected
-    (λ e. well P.Write (withStage d s) (ok d h) f)
-    (λ e. well P.Write (withStage d Unselected) (ok d h) refl)
+    elim (tested (isCallByte due byte d)) [
+      | holds e ↦ rw e (well P.Write (withStage d s) (ok d h) f)
+      | fails e ↦ rw e (well P.Write (withStage d Unselected) (ok d h) refl)
+    ]
 
 taken-well : (byte : ℕ) (d : Device) (s : Stage) → WellIn P.Write d → WellIn P.Write (takenAt s byte d)
 taken-well byte d Unselected h = h
@@ -94,10 +96,10 @@ moved-well : (d : Device) → WellIn P.Read d → WellIn P.Read (movedOn d)
 unfolding movedOn
 moved-well d h =
     let o = ok d (well-formed-ok P.Read d h) in
-    let next = withControl d (controlMoved (d .chip) (d .control)) in
-    by-cases (WellIn P.Read) (isTalking (d .stage)) next d
-    (λ e. well P.Read next (record { legal = moved-legal (d .chip) (d .control) (o .legal); allowed = o .allowed; within = o .within }) (fits P.Read d h))
-    (λ e. h)
+    elim (tested (isTalking (d .stage))) [
+      | holds e ↦ rw e (well P.Read (withControl d (controlMoved (d .chip) (d .control))) (record { legal = moved-legal (d .chip) (d .control) (o .legal); allowed = o .allowed; within = o .within }) (fits P.Read d h))
+      | fails e ↦ rw e h
+    ]
 
 pub gotten-well : (ack : Bool) (d : Device) → wellFormed P.Read d ≡ true → wellFormed (phaseAfterGet ack) (gottenFrom ack d) ≡ true
 unfolding gottenFrom
@@ -109,15 +111,15 @@ gotten-well false d h = well P.Ended (withStage (movedOn d) Unselected) (ok (mov
 effect-ok : (d : Device) → recordOk d ≡ true → recordOk (effectOfStop d) ≡ true
 unfolding effectOfStop recordOk
 effect-ok d h =
-    by-cases (λ (x : Device). recordOk x ≡ true) (isDriver (d .chip) && isAwake d)
-    (withEffective d (committed (outputsOf (d .chip)) (d .written) (d .effective))) d (λ e. h) (λ e. h)
+    elim (tested (isDriver (d .chip) && isAwake d)) [ holds e ↦ rw e h | fails e ↦ rw e h ]
 
 pub stopped-well : (d : Device) → recordOk d ≡ true → wellFormed P.Idle (stoppedOf d) ≡ true
 unfolding stoppedOf
 stopped-well d h =
-    by-cases (WellIn P.Idle) (isDriver (d .chip) && tookReset (d .stage)) (resetOf d) (withStage (effectOfStop d) Unselected)
-    (λ e. reset-well P.Idle d h)
-    (λ e. well P.Idle (withStage (effectOfStop d) Unselected) (ok (effectOfStop d) (effect-ok d h)) refl)
+    elim (tested (isDriver (d .chip) && tookReset (d .stage))) [
+      | holds e ↦ rw e (reset-well P.Idle d h)
+      | fails e ↦ rw e (well P.Idle (withStage (effectOfStop d) Unselected) (ok (effectOfStop d) (effect-ok d h)) refl)
+    ]
 
 -- ---- any signal that is in turn
 

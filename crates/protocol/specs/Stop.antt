@@ -1,8 +1,9 @@
 -- What a STOP does (01, "Who answers an address" and "When a lamp is lit").
-use Prim.Native.Nat.{ℕ, zero, suc}
+use Prim.Native.Nat.{ℕ}
 use mathlib.Core.Bool.{Bool, true, false, _&&_, cond}
-use mathlib.Core.List.{List, [], _∷_, _++_}
+use mathlib.Core.List.{List}
 use lib.ListN.{getD}
+use Rattle.basics.specs.Tabulate.{tabulate}
 use Rattle.chip.specs.Kinds.{isDriver, outputsOf}
 use Rattle.chip.specs.Registers.{inBuffer}
 use Rattle.device.specs.Fields.{withStage, withEffective}
@@ -11,11 +12,6 @@ use Rattle.device.specs.Reset.{resetOf}
 use Rattle.device.specs.declared.Device.{Device}
 use Rattle.device.specs.declared.Stage.{Stage}
 use Rattle.device.specs.declared.Stage.the-variants.{Unselected, Control, Data, Talking, ResetCall, ResetFirst, ResetBoth}
-
--- f 0, f 1, .., f (n - 1)
-unfoldable pub tabulate : ℕ → (ℕ → ℕ) → List ℕ
-tabulate zero f = []
-tabulate (suc n) f = tabulate n f ++ f n ∷ []
 
 -- the copy in effect after a commit: the buffered registers as written, every other entry as it was
 abbrev pub committedAt : ℕ → List ℕ → List ℕ → ℕ → ℕ

@@ -16,7 +16,7 @@ use Rattle.chip.specs.declared.Chip.the-variants.{Pca9635}
 use Rattle.device.specs.Reset.{fresh}
 use Rattle.device.specs.declared.Device.{Device}
 use Rattle.device.specs.declared.Phase.{Phase}
-use Rattle.bus.specs.First.{mapFirst}
+use Rattle.basics.specs.First.{mapFirst}
 use Rattle.bus.specs.Bus.{emptyBus}
 use Rattle.bus.specs.Refusals.{Refusal, codeOf}
 use Rattle.bus.specs.Replies.{answer, refusedWith}

@@ -8,7 +8,7 @@ use native.Mathlib.Omega.{arith}
 use lib.Dec.{leb, ltb, eqb}
 use lib.ListN.{length, take, drop}
 use borrow.Author.Tests.{le-ltb, le-leb, ltb-false, eqb-true}
-use lib.Seq.{getD-set-same}
+use lib.Seq.{getD-set-same, take-append-seam, length-take-le}
 use Rattle.chip.specs.declared.Chip.the-variants.{Pca9635}
 use Rattle.device.specs.Reset.{fresh}
 use Rattle.device.specs.Wait.{waitedOf}
@@ -20,8 +20,9 @@ use Rattle.protocol.specs.Put.{acksTo}
 use Rattle.protocol.specs.Read.{talkOf}
 use Rattle.protocol.specs.Signal.{inTurn, phaseAfterSignal, deviceAfter}
 use Rattle.protocol.specs.declared.Signal.the-variants as S
-use Rattle.device.specs.Bits.{mask, maskFirst}
-use Rattle.bus.specs.First.{mapFirst, allFirst, andFirst, all, andOf}
+use Rattle.basics.specs.laws.First.{map-firsts}
+use Rattle.basics.specs.Bits.{mask, maskFirst}
+use Rattle.basics.specs.First.{mapFirst, allFirst, andFirst, all, andOf}
 use Rattle.bus.specs.Bus.{busOk, hasDevice, deviceAt, emptyBus}
 use Rattle.bus.specs.Refusals.{Refusal, refuse, codeOf, risesFrom}
 use Rattle.bus.specs.laws.Refusals.{Exact, exact}
@@ -145,12 +146,6 @@ done-seen b (Reset dev) g = absurd (false≢true g)
 done-seen b (Lit dev out ticks) g = absurd (false≢true g)
 done-seen b (Pin dev out) g = absurd (false≢true g)
 
-map-firsts : {A : Type 0} (f : A → A) (n : ℕ) (l : List A) → take n (mapFirst n f l) ≡ map f (take n l)
-unfolding mapFirst
-map-firsts f zero l = refl
-map-firsts f (suc n) [] = refl
-map-firsts f (suc n) (x ∷ l) = ap (λ (t : List _). f x ∷ t) (map-firsts f n l)
-
 devices-seen : (b : Bus) (e : Event) → isSignal e ≡ true → take (b .count) (stepDone b e .bus .devices) ≡ map (recordAfter (b .phase) e) (firsts b)
 unfolding stepDone
 devices-seen b Start g = map-firsts _ (b .count) (b .devices)
@@ -195,15 +190,6 @@ row-seen b e g =
 
 -- ---- a row's reply and the row afterwards
 
-take-append : {A : Type 0} (l r : List A) → take (length l) (l ++ r) ≡ l
-take-append [] r = refl
-take-append (x ∷ l) r = ap (λ (t : List _). x ∷ t) (take-append l r)
-
-pub take-length : {A : Type 0} (n : ℕ) (l : List A) → n ≤ length l → length (take n l) ≡ n
-take-length zero l h = refl
-take-length (suc n) [] h = absurd (omega arith)
-take-length (suc n) (x ∷ l) h = ap suc (take-length n l (le-of-suc-le-suc h))
-
 module _ (p : Phase) (e : Event) (g : isSignal e ≡ true) where
   abbrev replyAt : ℕ → List Device → RowReply
   replyAt n ds = cond (eqb (seenAt p n ds e) 0) (doneRow ds p e) (refusedRow p (seenAt p n ds e))
@@ -213,11 +199,11 @@ module _ (p : Phase) (e : Event) (g : isSignal e ≡ true) where
 
   reply-at : (ds : List Device) → ltb 8 (length ds) ≡ false → rowReply ds p e ≡ replyAt (length ds) ds
   unfolding rowReply
-  reply-at ds h = rw (h, g) (reply-seen (rowBus p ds) e g ∙ ap (replyAt (length ds)) (take-append ds (drop (length ds) (emptyBus .devices))))
+  reply-at ds h = rw (h, g) (reply-seen (rowBus p ds) e g ∙ ap (replyAt (length ds)) (take-append-seam ds (drop (length ds) (emptyBus .devices))))
 
   row-at : (ds : List Device) → ltb 8 (length ds) ≡ false → rowAfter ds p e ≡ rowAt (length ds) ds
   unfolding rowAfter
-  row-at ds h = rw (h, g) (row-seen (rowBus p ds) e g ∙ ap (rowAt (length ds)) (take-append ds (drop (length ds) (emptyBus .devices))))
+  row-at ds h = rw (h, g) (row-seen (rowBus p ds) e g ∙ ap (rowAt (length ds)) (take-append-seam ds (drop (length ds) (emptyBus .devices))))
 
   code-at : (ds : List Device) → ltb 8 (length ds) ≡ false → seenAt p (length ds) ds e ≡ codeOf (rowRefusals ds p e)
   unfolding codeOf
@@ -238,7 +224,7 @@ row-as-bus b e few wide g = (
     ds = firsts b
 
     len : length ds ≡ b .count
-    len = take-length (b .count) (b .devices) wide
+    len = length-take-le (b .count) (b .devices) wide
 
     short : ltb 8 (length ds) ≡ false
     short = le-ltb 8 (length ds) (omega (arith, len))

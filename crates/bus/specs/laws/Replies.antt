@@ -14,7 +14,7 @@ use Rattle.chip.specs.declared.Lookup.the-variants.{Known, Unknown}
 use Rattle.device.specs.WellFormed.{wellFormed}
 use Rattle.refusals.specs.Refusals.{Refusal, codeOf}
 use Rattle.refusals.specs.laws.Refusals.{positive, NoneHolds, accepted, Exact, exact}
-use Rattle.bus.specs.First.{allFirst}
+use Rattle.basics.specs.First.{allFirst}
 use Rattle.bus.specs.Bus.{busOk}
 use Rattle.bus.specs.Replies.{refusedWith, answer}
 use Rattle.bus.specs.Add.{isUnknown, isBarred}

@@ -24,8 +24,8 @@ use Rattle.protocol.specs.Promises.{signal-well}
 use Rattle.protocol.specs.declared.Signal.{Signal}
 use Rattle.refusals.specs.Refusals.{holdsAt}
 use Rattle.refusals.specs.laws.Refusals.{positive, NoneHolds, none-at}
-use Rattle.bus.specs.First.{allFirst}
-use Rattle.bus.specs.laws.First.{all-at, all-set, all-added, all-mapped}
+use Rattle.basics.specs.First.{allFirst}
+use Rattle.basics.specs.laws.First.{all-at, all-set, all-added, all-mapped}
 use Rattle.bus.specs.Bus.{busOk, hasDevice, deviceAt, withDevice, withAdded, busAfter}
 use Rattle.bus.specs.Add.{isBarred, addedTo}
 use Rattle.bus.specs.Signals.{signalOf}

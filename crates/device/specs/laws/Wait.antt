@@ -7,9 +7,8 @@ use lib.Dec.{leb}
 use borrow.Author.Tests.{leb-true}
 use Rattle.lamp.specs.Window.{countLimit}
 use Rattle.lamp.specs.Duration.{amount}
-use Rattle.lamp.specs.declared.Duration.{Duration}
 use Rattle.chip.specs.Kinds.{isDriver}
-use Rattle.chip.specs.laws.Logic.{by-cases}
+use Rattle.basics.specs.laws.Logic.{tested, holds, fails}
 use Rattle.chip.specs.declared.Chip.{Chip}
 use Rattle.device.specs.Wait.{overruns, advanced, waitedOf, isOwn, ownDuration, overrunsFor, waitedFor}
 use Rattle.device.specs.declared.Device.{Device}
@@ -29,10 +28,10 @@ module _ (t w : ℕ) (b : Bool) (e : b ≡ leb (t + w) countLimit) where
 
 -- a bare number in a chip's own unit is in its own unit, and is that number
 pub own-is-own : (chip : Chip) (n : ℕ) → isOwn chip (ownDuration chip n) ≡ true
-own-is-own chip n = by-cases (λ (w : Duration). isOwn chip w ≡ true) (isDriver chip) _ _ (λ e. e) (λ e. rw e)
+own-is-own chip n = elim (tested (isDriver chip)) [ holds e ↦ rw e e | fails e ↦ rw e (rw e) ]
 
 pub own-amount : (chip : Chip) (n : ℕ) → amount (ownDuration chip n) ≡ n
-own-amount chip n = by-cases (λ (w : Duration). amount w ≡ n) (isDriver chip) _ _ (λ e. refl) (λ e. refl)
+own-amount chip n = elim (tested (isDriver chip)) [ holds e ↦ rw e | fails e ↦ rw e ]
 
 -- and so it overruns and waits as the number does
 module _ (d : Device) (n : ℕ) where

@@ -6,7 +6,7 @@ use lib.Dec.{leb}
 use Rattle.lamp.specs.Window.{countLimit}
 use Rattle.chip.specs.Addresses.{addressAllowed}
 use Rattle.chip.specs.Control.{controlLegal}
-use Rattle.chip.specs.laws.Logic.{and-left, and-right}
+use Rattle.basics.specs.laws.Logic.{and-left, and-right}
 use Rattle.chip.specs.declared.Chip.{Chip}
 use Rattle.device.specs.WellFormed.{recordOk, stageFits, wellFormed}
 use Rattle.device.specs.declared.Device.{Device}

@@ -1,26 +1,19 @@
--- The lent buffer of a read message: the tail that was lent is back; what an accepted call may ask of its arguments; what an accepted or a refused one leaves.
-use Prim.Native.Nat.{ℕ, _+_, _-_, _≤_, _<_}
+-- The lent buffer of a read message: what an accepted call may ask of its arguments; what an accepted or a refused one leaves.
+use Prim.Native.Nat.{ℕ, _+_, _≤_, _<_}
 use mathlib.Core.Path.{_≡_, refl}
 use mathlib.Core.Bool.{true, _||_}
-use mathlib.Core.List.{List, _++_, append-assoc, append-nil}
+use mathlib.Core.List.{List}
 use native.Mathlib.Omega.{arith}
 use lib.Dec.{ltb, eqb}
-use lib.ListN.{length, take, drop, length-drop, drop-of-length-le}
-use lib.Seq.{take-all, drop-drop}
+use lib.ListN.{length}
 use borrow.Author.Tests.{ltb-false, eqb-false, eq-eqb, ne-eqb, not-false}
-use Rattle.chip.specs.laws.Logic.{neither}
+use Rattle.basics.specs.laws.Logic.{neither}
 use Rattle.bus.specs.Refusals.{codeOf}
 use Rattle.bus.specs.Bus.{busOk}
 use Rattle.bus.specs.laws.Refusals.{accepted}
 use Rattle.bus.specs.declared.Bus.{Bus}
 use Rattle.bus.specs.declared.Reply.{Reply}
 use Rattle.message.specs.Message.{readRefusals, readReply, stored, bufferAfter}
-
--- bytes at the start of the tail at the place
-pub tail-back : (l got part : List ℕ) (place n : ℕ) → part ≡ got ++ drop n (take (length l - place) (drop place l)) → take place l ++ (part ++ drop (length l - place) (drop place l)) ≡ take place l ++ got ++ drop (place + n) l
-tail-back l got part place n e =
-    let k : length (drop place l) ≤ length l - place = rw length-drop (omega arith) in
-    rw (e, take-all (length l - place) (drop place l) k, drop-of-length-le (drop place l) k, append-nil, drop-drop, append-assoc)
 
 module _ (b : Bus) (address control n place : ℕ) (l : List ℕ) where
   -- what holds where a read message is accepted

@@ -9,7 +9,9 @@ use lib.Bits.{bitAnd, and-le-l}
 use lib.Dec.{eqb}
 use lib.ListN.{length, take, drop, set, length-append}
 use lib.Seq.{drop-cons, set-at}
-use Rattle.bus.specs.First.{andOf, andFirst}
+use Rattle.basics.specs.First.{andFirst}
+use Rattle.basics.specs.laws.First.{and-byte}
+use Rattle.basics.specs.laws.Lists.{filled-more}
 use Rattle.bus.specs.Refusals.{codeOf}
 use Rattle.bus.specs.Replies.{refusedWith, answer, getRefusals, getDone, getReply}
 use Rattle.bus.specs.Events.{stepReply, runBus}
@@ -19,10 +21,6 @@ use Rattle.bus.specs.declared.Reply.{Reply}
 use Rattle.message.specs.Message.{ackedPuts, ackAt, getsOf}
 use Rattle.message.specs.Sent.{valuesOf}
 use Rattle.message.specs.laws.Runs.{run-append, acked-append, values-append, values-length}
-
-and-byte : {A : Type 0} (f : A → ℕ) (l : List A) (byte : ℕ) → byte < 256 → andOf f l byte < 256
-and-byte f [] byte h = h
-and-byte f (x ∷ l) byte h = and-byte f l (bitAnd byte (f x)) (omega (arith, and-le-l byte (f x)))
 
 pub get-byte : (b : Bus) (ack : ℕ) (r : Reply) → r ≡ getReply b ack → r .value < 256
 unfolding getReply answer andFirst
@@ -59,16 +57,12 @@ got-suc : (n : ℕ) (b : Bus) (i : ℕ) → valuesOf b (getsOf n (suc i)) ≡ va
 unfolding getsOf stepReply valuesOf
 got-suc n b i = values-append b (getsOf n i) (Get (ackAt n i) ∷ [])
 
--- a byte is stored after those before it
-fill : (g l : List ℕ) (i v : ℕ) → length g ≡ i → i < length l → set (g ++ drop i l) i v ≡ (g ++ v ∷ []) ++ drop (suc i) l
-fill g l i v h k = rw (drop-cons l i 0 k, set-at g _ _ v i h, append-assoc)
-
 module _ (n : ℕ) (first now : Bus) (i ack : ℕ) (r : Reply) (e : now ≡ runBus first (getsOf n i)) (k : ack ≡ ackAt n i) (u : r ≡ getReply now ack) where
   pub run-more : r .bus ≡ runBus first (getsOf n (i + 1))
   run-more = rw (add-one, run-suc n first i, ← e, ← k, u)
 
   pub got-more : (l cur : List ℕ) → i < length l → cur ≡ valuesOf first (getsOf n i) ++ drop i l → set cur i (r .value) ≡ valuesOf first (getsOf n (i + 1)) ++ drop (i + 1) l
-  got-more l cur h q = rw (add-one, q, got-suc n first i, ← e, ← k, ← u) (fill (valuesOf first (getsOf n i)) l i (r .value) (got-length first n i) h)
+  got-more l cur h q = rw (add-one, q, got-suc n first i, ← e, ← k, ← u) (filled-more (valuesOf first (getsOf n i)) l i (r .value) (got-length first n i) h)
 
 pub gets-done : (n : ℕ) (first now : Bus) (l cur : List ℕ) (i : ℕ) → i ≤ n → n ≤ i → now ≡ runBus first (getsOf n i) → cur ≡ valuesOf first (getsOf n i) ++ drop i l → (now ≡ runBus first (getsOf n n)) × (cur ≡ valuesOf first (getsOf n n) ++ drop n l)
 gets-done n first now l cur i h k e q =

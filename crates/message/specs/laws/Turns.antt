@@ -7,14 +7,14 @@ use native.Mathlib.Omega.{arith}
 use lib.Dec.{ltb, eqb}
 use lib.ListN.{length}
 use borrow.Author.Tests.{ltb-true, ltb-false, lt-ltb, le-ltb, eq-eqb, ne-eqb, not-false}
-use Rattle.chip.specs.laws.Logic.{and-left, and-right}
+use Rattle.basics.specs.laws.Logic.{and-left, and-right}
 use Rattle.device.specs.WellFormed.{isRead}
 use Rattle.device.specs.declared.Phase.{Phase}
 use Rattle.device.specs.declared.Phase.the-variants as P
 use Rattle.protocol.specs.Selection.{phaseAfter}
 use Rattle.protocol.specs.Read.{phaseAfterGet}
 use Rattle.protocol.specs.Signal.{takesPut, isOpen, phaseAfterPut, phaseAfterSignal}
-use Rattle.bus.specs.First.{all}
+use Rattle.basics.specs.First.{all}
 use Rattle.bus.specs.Refusals.{codeOf}
 use Rattle.bus.specs.Bus.{busOk}
 use Rattle.bus.specs.Events.{stepReply, stepRefusals, stepDone, runReplies}

@@ -3,8 +3,8 @@ use Prim.Native.Nat.{_≤_, _-_, _^_}
 use mathlib.Core.Path.{_≡_}
 use native.Mathlib.Omega.{arith}
 use Rattle.protocol.specs.Put.{acksTo}
-use Rattle.device.specs.Bits.{maskFirst}
-use Rattle.device.specs.laws.Bits.{mask-none, mask-more, mask-done, mask-room, weight-more, weight-most}
+use Rattle.basics.specs.Bits.{maskFirst}
+use Rattle.basics.specs.laws.Bits.{mask-none, mask-more, mask-done, mask-room, weight-more, weight-most}
 use Rattle.bus.proofs.devices.ack_set.Statement.{statement}
 use Rattle.bus.proofs.devices.ack_set.Tie as tie
 

@@ -2,8 +2,8 @@ use borrow.Author.Needs.{needs}
 use Prim.Native.Nat.{_≤_, _-_}
 use mathlib.Core.Path.{_≡_}
 use Rattle.protocol.specs.Signal.{deviceAfter}
-use Rattle.bus.specs.First.{mapFirst}
-use Rattle.bus.specs.laws.First.{map-none, map-more, map-done}
+use Rattle.basics.specs.First.{mapFirst}
+use Rattle.basics.specs.laws.First.{map-none, map-more, map-done}
 use Rattle.bus.proofs.devices.all_after.Statement.{statement}
 use Rattle.bus.proofs.devices.all_after.Tie as tie
 

@@ -3,8 +3,8 @@ use Prim.Native.Nat.{_≤_, _-_}
 use mathlib.Core.Path.{_≡_, sym, _∙_}
 use mathlib.Core.Bool.{true}
 use Rattle.device.specs.WellFormed.{wellFormed}
-use Rattle.bus.specs.First.{allFirst}
-use Rattle.bus.specs.laws.First.{all-none, all-more, all-done, all-fails}
+use Rattle.basics.specs.First.{allFirst}
+use Rattle.basics.specs.laws.First.{all-none, all-more, all-done, all-fails}
 use Rattle.bus.proofs.devices.all_ok.Statement.{statement}
 use Rattle.bus.proofs.devices.all_ok.Tie as tie
 

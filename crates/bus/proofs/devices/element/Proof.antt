@@ -2,7 +2,7 @@ use borrow.Author.Needs.{needs}
 use lib.ListN.{List·getD-eq-default}
 use Rattle.chip.specs.declared.Chip.the-variants.{Pca9635}
 use Rattle.device.specs.Reset.{fresh}
-use Rattle.bus.specs.laws.First.{getD-there}
+use Rattle.basics.specs.laws.Lists.{getD-there}
 use Rattle.bus.proofs.devices.element.Statement.{statement}
 use Rattle.bus.proofs.devices.element.Tie as tie
 

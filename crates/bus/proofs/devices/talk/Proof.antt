@@ -2,8 +2,8 @@ use borrow.Author.Needs.{needs}
 use Prim.Native.Nat.{_≤_, _-_}
 use mathlib.Core.Path.{_≡_}
 use Rattle.protocol.specs.Read.{talkOf}
-use Rattle.bus.specs.First.{andFirst}
-use Rattle.bus.specs.laws.First.{and-none, and-more, and-done}
+use Rattle.basics.specs.First.{andFirst}
+use Rattle.basics.specs.laws.First.{and-none, and-more, and-done}
 use Rattle.bus.proofs.devices.talk.Statement.{statement}
 use Rattle.bus.proofs.devices.talk.Tie as tie
 

@@ -5,10 +5,10 @@ use native.Mathlib.Omega.{arith}
 use lib.Dec.{eqb}
 use lib.ListN.{getD}
 use borrow.Author.Tests.{eqb-true}
-use Rattle.chip.specs.laws.Table.{at}
-use Rattle.device.specs.Bits.{maskFirst}
+use Rattle.basics.specs.laws.Table.{at}
+use Rattle.basics.specs.Bits.{maskFirst}
 use Rattle.device.specs.Output.{inputBit, blinkerOutputs, inputByte}
-use Rattle.device.specs.laws.Bits.{mask-none, mask-more, mask-done, mask-room, mask-byte, weight-more, weight-most}
+use Rattle.basics.specs.laws.Bits.{mask-none, mask-more, mask-done, mask-room, mask-byte, weight-more, weight-most}
 use Rattle.device.proofs.output.input_byte.Statement.{statement}
 use Rattle.device.proofs.output.input_byte.Tie as tie
 

@@ -3,7 +3,7 @@ use Rattle.message.specs.Message.{readHead, getsOf, bytesGot}
 use Rattle.message.specs.Sent.{valuesOf}
 use Rattle.message.specs.laws.Sent.{under-way-bus, read-ends}
 use Rattle.message.specs.laws.Gets.{gets-acked}
-use Rattle.message.specs.laws.Buffer.{tail-back}
+use Rattle.basics.specs.laws.Lists.{tail-back}
 use borrow.Author.Needs.{needs}
 use Rattle.message.proofs.read.read_done.Statement.{statement}
 use Rattle.message.proofs.read.read_done.Tie as tie

@@ -8,12 +8,13 @@ use Rattle.chip.specs.Registers.{subadr1}
 use Rattle.chip.specs.declared.RegisterMap.{RegisterMap}
 use Rattle.chip.proofs.Laws.{outputs-few}
 use Rattle.protocol.specs.Stop.{committedAt, committed}
-use Rattle.protocol.specs.laws.Lists.{copied, copied-none, copied-more, tabulated}
+use Rattle.basics.specs.laws.Lists.{copied, copied-none, copied-more}
+use Rattle.basics.specs.laws.Tabulate.{tabulated}
 use Rattle.protocol.proofs.stop.committed.Statement.{statement}
 use Rattle.protocol.proofs.stop.committed.Tie as tie
 
 abbrev Inv-loop : tie.InvT-loop
-Inv-loop written end next₀ i₀ next i = (2 ≤ i) × (i ≤ end) × (end ≤ 24) × (length next ≡ 28) × ((k : ℕ) → getD next k 0 ≡ copied written next₀ i k)
+Inv-loop written end next₀ i₀ next i = (2 ≤ i) × (i ≤ end) × (end ≤ 24) × (length next ≡ 28) × ((k : ℕ) → getD next k 0 ≡ copied 2 written next₀ i k)
 
 abbrev μ-loop : tie.MeasureT-loop
 μ-loop written end next₀ i₀ next i = end - i
@@ -22,7 +23,7 @@ loop-holds : tie.Need-loop-holds Inv-loop μ-loop
 loop-holds c =
     let a = c .before .before .args in
     let few : outputsOf (a .chip) ≤ 16 = outputs-few (a .chip) in
-    rw (c .before .register-map .ensures) (omega arith, omega arith, omega arith, search needs, copied-none (a .t2) (a .effective))
+    rw (c .before .register-map .ensures) (omega arith, omega arith, omega arith, search needs, copied-none 2 (a .t2) (a .effective))
 
 loop-again : tie.Need-loop-again Inv-loop μ-loop
 loop-again c =
@@ -32,7 +33,7 @@ loop-again c =
       omega arith,
       omega arith,
       length-set (l .next) (l .i) (getD (a .t2) (l .i) 0) ∙ l .inv .3,
-      copied-more (a .t2) (a .effective) (l .next) (l .i) (l .inv .0) (rw (l .inv .3) (omega arith)) (l .inv .4),
+      copied-more 2 (a .t2) (a .effective) (l .next) (l .i) (l .inv .0) (rw (l .inv .3) (omega arith)) (l .inv .4),
     )
 
 returns : tie.Need-returns Inv-loop μ-loop

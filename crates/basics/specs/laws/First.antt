@@ -1,22 +1,16 @@
 -- The first n elements of a list, for any element, function and test: what a loop over them starts with, what a turn adds, what it ends with; and what keeps a test of all.
 use Prim.Native.Nat.{ℕ, zero, suc, _+_, _≤_, _<_}
 use mathlib.Core.Path.{_≡_, refl, sym, ap}
-use mathlib.Core.Bool.{Bool, true, false, not, _&&_, cond, false≢true}
-use mathlib.Core.List.{List, [], _∷_}
+use mathlib.Core.Bool.{Bool, true, false, not, and-false, false≢true}
+use mathlib.Core.List.{List, [], _∷_, map}
 use native.Mathlib.Numerals.{add-one}
 use native.Mathlib.Nat.{le-of-suc-le-suc}
 use native.Mathlib.Omega.{arith}
-use lib.Bits.{bitAnd}
+use lib.Bits.{bitAnd, and-le-l}
 use lib.ListN.{length, take, getD, set}
-use Rattle.chip.specs.laws.Logic.{and-left, and-right}
-use Rattle.device.specs.Bits.{mask}
-use Rattle.bus.specs.First.{mapFirst, allFirst, andFirst, all, andOf}
-
--- an element that is there does not depend on what would stand for a missing one
-pub getD-there : {A : Type 0} (y z : A) (l : List A) (i : ℕ) → i < length l → getD l i y ≡ getD l i z
-getD-there y z [] i h = absurd (omega arith)
-getD-there y z (x ∷ l) zero h = refl
-getD-there y z (x ∷ l) (suc i) h = getD-there y z l i (le-of-suc-le-suc h)
+use Rattle.basics.specs.laws.Logic.{tested, holds, fails, and-left, and-right}
+use Rattle.basics.specs.Bits.{mask}
+use Rattle.basics.specs.First.{mapFirst, allFirst, andFirst, all, andOf}
 
 -- ---- a function at each
 
@@ -35,6 +29,12 @@ module _ {A : Type 0} (f : A → A) where
   -- a turn replaces the element at i of the list as it stands by f of it
   pub map-more : (z : A) (l now : List A) (i : ℕ) (y : A) → now ≡ mapFirst i f l → y ≡ f (getD now i z) → set now i y ≡ mapFirst (i + 1) f l
   map-more z l now i y e q = rw (add-one, q, e) (map-suc z l i)
+
+  pub map-firsts : (n : ℕ) (l : List A) → take n (mapFirst n f l) ≡ map f (take n l)
+  unfolding mapFirst
+  map-firsts zero l = refl
+  map-firsts (suc n) [] = refl
+  map-firsts (suc n) (x ∷ l) = ap (λ (t : List A). f x ∷ t) (map-firsts n l)
 
   pub map-done : (l now : List A) (i n : ℕ) → i ≤ n → n ≤ i → now ≡ mapFirst i f l → now ≡ mapFirst n f l
   map-done l now i n h k e = let q : n ≡ i = omega arith in rw q e
@@ -73,11 +73,8 @@ module _ {A : Type 0} (p : A → Bool) where
   fails-suc z [] i n h k e = absurd (omega arith)
   fails-suc z (x ∷ l) i zero h k e = absurd (omega arith)
   fails-suc z (x ∷ l) zero (suc n) h k e = rw e
-  fails-suc z (x ∷ l) (suc i) (suc n) h k e = go (p x) (fails-suc z l i n (le-of-suc-le-suc h) (le-of-suc-le-suc k) e)
-    where
-      go : (b : Bool) → all p (take n l) ≡ false → (b && all p (take n l)) ≡ false
-      go true q = q
-      go false q = refl
+  fails-suc z (x ∷ l) (suc i) (suc n) h k e =
+      rw (fails-suc z l i n (le-of-suc-le-suc h) (le-of-suc-le-suc k) e, and-false (p x)) refl
 
   -- where one fails, not all hold
   pub all-fails : (z : A) (l : List A) (i n : ℕ) → i < n → i < length l → p (getD l i z) ≡ false → false ≡ allFirst n p l
@@ -126,20 +123,23 @@ module _ {A : Type 0} (f : A → ℕ) where
   pub and-done : (l : List A) (m i n : ℕ) → i ≤ n → n ≤ i → m ≡ andFirst i f l → m ≡ andFirst n f l
   and-done l m i n h k e = let q : n ≡ i = omega arith in rw q e
 
+  -- it is a byte
+  pub and-byte : (l : List A) (byte : ℕ) → byte < 256 → andOf f l byte < 256
+  and-byte [] byte h = h
+  and-byte (x ∷ l) byte h = and-byte l (bitAnd byte (f x)) (omega (arith, and-le-l byte (f x)))
+
 -- ---- a set of positions is empty exactly when the test fails at each
 
 pub empty-none : {A : Type 0} (w : ℕ) (p : A → Bool) (l : List A) → 0 < w → mask w p l ≡ 0 → all (λ x. not (p x)) l ≡ true
 empty-none w p [] h e = refl
-empty-none w p (x ∷ l) h e = go (p x) e (empty-none (w + w) p l (omega arith))
-  where
-    go : (t : Bool) → cond t w 0 + mask (w + w) p l ≡ 0 → (mask (w + w) p l ≡ 0 → all (λ y. not (p y)) l ≡ true) → (not t && all (λ y. not (p y)) l) ≡ true
-    go true z rest = absurd (omega arith)
-    go false z rest = rest (omega arith)
+empty-none w p (x ∷ l) h e = elim (tested (p x)) [
+  | holds t ↦ absurd (omega (arith, rw t at e))
+  | fails t ↦ rw t (empty-none (w + w) p l (omega arith) (omega (arith, rw t at e)))
+]
 
 pub none-empty : {A : Type 0} (w : ℕ) (p : A → Bool) (l : List A) → all (λ x. not (p x)) l ≡ true → mask w p l ≡ 0
 none-empty w p [] e = refl
-none-empty w p (x ∷ l) e = go (p x) e (none-empty (w + w) p l)
-  where
-    go : (t : Bool) → (not t && all (λ y. not (p y)) l) ≡ true → (all (λ y. not (p y)) l ≡ true → mask (w + w) p l ≡ 0) → cond t w 0 + mask (w + w) p l ≡ 0
-    go true z rest = absurd (false≢true z)
-    go false z rest = omega (arith, rest z)
+none-empty w p (x ∷ l) e = elim (tested (p x)) [
+  | holds t ↦ absurd (false≢true (rw t at e))
+  | fails t ↦ rw t (omega (arith, none-empty (w + w) p l (rw t at e)))
+]

@@ -4,7 +4,7 @@ use mathlib.Core.Logic.{⊎-elim}
 use mathlib.Core.Bool.{Bool, true, false, not, _&&_, _||_, Bool·beq, false≢true}
 use Prim.Native.Nat.{ℕ, zero, suc, _<_}
 use native.Mathlib.Nat.{le-of-suc-le-suc, not-suc-le-zero, suc-inj, eq-or-lt-of-le}
-use Rattle.chip.specs.laws.Logic.{and-left, and-right}
+use Rattle.basics.specs.laws.Logic.{and-left, and-right}
 
 -- the test passes at each number below n
 abbrev pub allBelow : ℕ → (ℕ → Bool) → Bool

@@ -8,7 +8,7 @@ use native.Mathlib.Nat.{le-of-suc-le-suc, mul-one, add-mul, pow-suc, mul-assoc, 
 use native.Mathlib.Omega.{arith}
 use lib.ListN.{length, take, getD}
 use lib.Pow.{pow-mono}
-use Rattle.device.specs.Bits.{mask, maskFirst}
+use Rattle.basics.specs.Bits.{mask, maskFirst}
 
 twice : (w i : ℕ) → (w + w) * 2 ^ i ≡ w * 2 ^ suc i
 twice w i = simp (add-mul, pow-suc, ← mul-assoc) (omega arith)

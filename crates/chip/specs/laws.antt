@@ -1,2 +1,0 @@
-pub mod Logic
-pub mod Table
