@@ -9,7 +9,7 @@ use Rattle.device.specs.Registers.{inEffect, isAwake, isBlinking}
 use Rattle.device.specs.Output.{ledoutOf}
 use Rattle.device.specs.declared.Device.{Device}
 use Rattle.bus.specs.Bus.{busOk, hasDevice, deviceAt}
-use Rattle.bus.specs.Replies.{isMissing}
+use Rattle.bus.specs.Place.{isMissing}
 use Rattle.bus.specs.declared.Bus.{Bus}
 
 -- an awake driver whose output has this mode and brightness in effect
@@ -33,5 +33,5 @@ pub record Dimmed (d : Device) (out M N : ℕ) : Type 0 where
 pub record Stands (b : Bus) (dev out t : ℕ) : Type 0 where
   pub formed : busOk b ≡ true
   pub there : hasDevice b dev ≡ true
-  pub has-output : isMissing b dev out ≡ false
+  pub has-output : isMissing (deviceAt b dev) out ≡ false
   pub at : deviceAt b dev .count ≡ t

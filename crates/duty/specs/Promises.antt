@@ -18,13 +18,17 @@ use Rattle.device.specs.Registers.{isAwake}
 use Rattle.device.specs.Output.{driverOutput, lampLit, litOf}
 use Rattle.device.specs.Wait.{overruns}
 use Rattle.device.specs.declared.Device.{Device}
-use Rattle.bus.specs.Refusals.{codeOf}
+use Rattle.refusals.specs.Refusals.{least, codeOf}
 use Rattle.bus.specs.Bus.{deviceAt}
-use Rattle.bus.specs.Replies.{answer, litRefusals, litDone, litReply}
-use Rattle.duty.specs.Output.{Output, Individual, Dimmed, Stands}
-use Rattle.bus.specs.Promises.{answer-done}
+use Rattle.bus.specs.Replies.{answer}
+use Rattle.bus.specs.Place.{questionRefusals, valueOf}
+use Rattle.bus.specs.Events.{stepReply, stepRefusals, stepDone, litReply}
+use Rattle.bus.specs.laws.Replies.{answer-done}
 use Rattle.bus.specs.declared.Bus.{Bus}
+use Rattle.bus.specs.declared.Event.the-variants.{Ask}
+use Rattle.bus.specs.declared.Question.the-variants.{Lit}
 use Rattle.bus.specs.declared.Reply.{Reply}
+use Rattle.duty.specs.Output.{Output, Individual, Dimmed, Stands}
 
 -- ---- lit's value is the tick-by-tick sum
 
@@ -34,9 +38,9 @@ in-limit d w a o = not-false (leb (d .count + w) countLimit) (rw a at o)
 
 -- for an awake device, driver or blinker: the number of ticks among t .. t+w-1 at which the lamp's test holds
 pub lit-sum : (b : Bus) (dev out w : ℕ) → litReply b dev out w .code ≡ 0 → isAwake (deviceAt b dev) ≡ true → litReply b dev out w .value ≡ litTicks (lampLit (deviceAt b dev) out) (deviceAt b dev .count) w
-unfolding litReply litOf countedTicks
+unfolding stepReply stepRefusals stepDone questionRefusals valueOf litOf countedTicks
 lit-sum b dev out w c a =
-    let done = answer-done (litRefusals b dev out w) b (litDone b dev out w) refl c in
+    let done = answer-done (stepRefusals b (Ask dev (Lit out w))) b (stepDone b (Ask dev (Lit out w))) refl refl c in
     let long = neither (ltb countLimit w) (overruns (deviceAt b dev) w) (done .0 .1 .1 .0) in
     ap (λ (r : Reply). r .value) (done .1) ∙ rw (a, in-limit (deviceAt b dev) w a (long .1)) refl
 
@@ -94,7 +98,7 @@ Reached set far =
 
 -- lit is accepted where the window ends by the limit
 lit-accepted : (b : Bus) (dev out t w : ℕ) → Stands b dev out t → t + w ≤ countLimit → litReply b dev out w .code ≡ 0
-unfolding litReply answer codeOf overruns
+unfolding stepReply stepRefusals stepDone questionRefusals answer codeOf least overruns
 lit-accepted b dev out t w s h =
     let e : leb (deviceAt b dev .count + w) countLimit ≡ true = rw (s .at) (le-leb (t + w) countLimit h) in
     let l : ltb countLimit w ≡ false = le-ltb countLimit w (omega arith) in
