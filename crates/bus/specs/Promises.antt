@@ -13,13 +13,12 @@ use Rattle.lamp.specs.Duration.{amount}
 use Rattle.lamp.specs.declared.Duration.{Duration}
 use Rattle.basics.specs.Bits.{mask, maskFirst}
 use Rattle.device.specs.Blink.{commonStartOf}
-use Rattle.device.specs.Output.{litFor}
-use Rattle.device.specs.Wait.{isOwn, waitedFor}
+use Rattle.device.specs.Wait.{isOwn}
 use Rattle.protocol.specs.Put.{acksTo}
 use Rattle.refusals.specs.Refusals.{codeOf}
 use Rattle.refusals.specs.laws.Refusals.{Exact}
 use Rattle.basics.specs.First.{allFirst}
-use Rattle.bus.specs.Bus.{busOk, deviceAt, withDevice, emptyBus}
+use Rattle.bus.specs.Bus.{busOk, deviceAt, emptyBus}
 use Rattle.bus.specs.Replies.{refusedWith, doneWith}
 use Rattle.bus.specs.Place.{blinkRefusals, blinkReply}
 use Rattle.bus.specs.Units.{isForeign, waitForRefusals, waitForReply, litForRefusals, litForReply}

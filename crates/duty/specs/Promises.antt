@@ -1,6 +1,6 @@
 -- Demand 3 on the answers of lit: the bounds for every bus, position, output and length, and that each bound is reached. That the buses of which it speaks exist is in `Witness`.
 -- Once over the number of outputs: a driver's chip is a variable.
-use mathlib.Core.Path.{_≡_, refl, sym, ap, _∙_}
+use mathlib.Core.Path.{_≡_, refl, ap, _∙_}
 use mathlib.Core.Bool.{Bool, true, false, and-false}
 use Prim.Native.Nat.{ℕ, _+_, _-_, _*_, _≤_, _<_}
 use native.Mathlib.Omega.{arith}

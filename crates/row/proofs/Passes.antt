@@ -7,7 +7,7 @@ use Prim.Native.Nat.{ℕ, zero, suc, _+_, _<_, _≤_}
 use native.Mathlib.Numerals.{add-one}
 use native.Mathlib.Nat.{le-of-suc-le-suc, le-refl}
 use native.Mathlib.Omega.{arith}
-use mathlib.Core.Bool.{Bool, true, false, _||_, cond, false≢true}
+use mathlib.Core.Bool.{Bool, true, false, _||_, cond}
 use mathlib.Core.List.{List, [], _∷_, _++_, append-nil}
 use lib.Dec.{ltb, eqb}
 use lib.ListN.{length, getD, set, take, drop, drop-of-length-le}
@@ -17,16 +17,16 @@ use Rattle.device.specs.Reset.{fresh}
 use Rattle.device.specs.declared.Device.{Device}
 use Rattle.device.specs.declared.Phase.{Phase}
 use Rattle.basics.specs.First.{mapFirst}
+use Rattle.basics.specs.laws.Logic.{holds, fails, tested}
+use Rattle.refusals.specs.Refusals.{codeOf}
 use Rattle.bus.specs.Bus.{emptyBus}
-use Rattle.bus.specs.Refusals.{Refusal, codeOf}
-use Rattle.bus.specs.Replies.{answer, refusedWith}
+use Rattle.bus.specs.Replies.{answer}
 use Rattle.bus.specs.Events.{stepReply, stepRefusals, stepDone}
-use Rattle.bus.specs.Promises.{step-is}
 use Rattle.bus.specs.declared.Bus.{Bus}
-use Rattle.bus.specs.declared.Event.{Event}
-use Rattle.bus.specs.declared.Event.the-variants.{Add, Start, Stop, Put, Get, Wait, Oe, Ext, Reset, Lit, Pin}
+use Rattle.bus.specs.declared.SignalEvent.{SignalEvent}
+use Rattle.bus.specs.declared.Event.the-variants.{Signal}
 use Rattle.bus.specs.declared.Reply.{Reply}
-use Rattle.row.specs.Row.{isSignal, rowBus, refusedRow, rowReplied, rowReply, rowAfter}
+use Rattle.row.specs.Row.{rowBus, refusedRow, rowReplied, rowReply, rowAfter}
 use Rattle.row.specs.Exchange.{exchangeOf, takenOf, beginOf, indexAfter, movedOn, swapOf}
 use Rattle.row.specs.declared.Exchange.{Exchange}
 use Rattle.row.specs.declared.RowReply.{RowReply}
@@ -70,32 +70,13 @@ map-length f (suc n) (x ∷ l) = ap suc (map-length f n l)
 
 -- ---- a signal leaves as many records
 
-answer-length : (l : List Refusal) (b : Bus) (d : Reply) → length (d .bus .devices) ≡ length (b .devices) → length (answer l b d .bus .devices) ≡ length (b .devices)
-unfolding answer
-answer-length l b d h = go (eqb (codeOf l) 0)
-  where
-    go : (t : Bool) → length (cond t d (refusedWith b (codeOf l)) .bus .devices) ≡ length (b .devices)
-    go true = h
-    go false = refl
-
-done-length : (b : Bus) (e : Event) → isSignal e ≡ true → length (stepDone b e .bus .devices) ≡ length (b .devices)
-unfolding stepDone
-done-length b (Add chip addr) h = absurd (false≢true h)
-done-length b Start h = map-length _ (b .count) (b .devices)
-done-length b Stop h = map-length _ (b .count) (b .devices)
-done-length b (Put byte) h = map-length _ (b .count) (b .devices)
-done-length b (Get ack) h = map-length _ (b .count) (b .devices)
-done-length b (Wait dev ticks) h = absurd (false≢true h)
-done-length b (Oe dev level) h = absurd (false≢true h)
-done-length b (Ext dev level) h = absurd (false≢true h)
-done-length b (Reset dev) h = absurd (false≢true h)
-done-length b (Lit dev out ticks) h = absurd (false≢true h)
-done-length b (Pin dev out) h = absurd (false≢true h)
-
-step-length : (b : Bus) (e : Event) → isSignal e ≡ true → length (stepReply b e .bus .devices) ≡ length (b .devices)
-step-length b e h =
-    ap (λ (r : Reply). length (r .bus .devices)) (step-is b e)
-    ∙ answer-length (stepRefusals b e) b (stepDone b e) (done-length b e h)
+step-length : (b : Bus) (e : SignalEvent) → length (stepReply b (Signal e) .bus .devices) ≡ length (b .devices)
+unfolding stepReply stepDone answer
+step-length b e =
+    elim (tested (eqb (codeOf (stepRefusals b (Signal e))) 0)) [
+      | holds t ↦ rw t (map-length _ (b .count) (b .devices))
+      | fails t ↦ rw t refl
+    ]
 
 -- ---- the passes
 
@@ -107,7 +88,7 @@ abbrev after : ℕ → ℕ → ℕ
 after zero m = m
 after (suc t) m = suc (after t m)
 
-module _ (xs : List Device) (p : Phase) (e : Event) where
+module _ (xs : List Device) (p : Phase) (e : SignalEvent) where
   abbrev pub Reach : ℕ → List Device → Exchange → Type 0
   Reach zero zs x = (x .length ≤ x .index) × ((zs ≡ rowAfter xs p e) × (x .reply ≡ rowReply xs p e))
   Reach (suc t) zs x =
@@ -170,26 +151,22 @@ module _ (xs : List Device) (p : Phase) (e : Event) where
         turn i (after (suc t) m) (omega arith) (rw (lt-ltb (suc i) n (omega arith)) (pass t (suc i) m (omega arith) r))
 
 -- how many turns the loop takes
-abbrev pub turns : List Device → Event → ℕ
-turns xs e = cond (ltb 8 (length xs)) 0 (cond (isSignal e) (after (length xs) (after (length xs) 0)) 0)
+abbrev pub turns : List Device → ℕ
+turns xs = cond (ltb 8 (length xs)) 0 (after (length xs) (after (length xs) 0))
 
--- a row that is refused for its length, or for the event
-too-long : (xs : List Device) (p : Phase) (e : Event) → ltb 8 (length xs) ≡ true → Reach xs p e (turns xs e) xs (beginOf (length xs) p e)
+-- a row that is refused for its length
+too-long : (xs : List Device) (p : Phase) (e : SignalEvent) → ltb 8 (length xs) ≡ true → Reach xs p e (turns xs) xs (beginOf (length xs) p e)
 unfolding rowAfter rowReply beginOf
 too-long xs p e h = rw h (le-refl 0, (rw h refl, rw h refl))
 
-foreign : (xs : List Device) (p : Phase) (e : Event) → ltb 8 (length xs) ≡ false → isSignal e ≡ false → Reach xs p e (turns xs e) xs (beginOf (length xs) p e)
-unfolding rowAfter rowReply beginOf
-foreign xs p e h g = rw (h, g) (le-refl 0, (rw (h, g) refl, rw (h, g) refl))
-
-module _ (p : Phase) (e : Event) (g : isSignal e ≡ true) where
-  after-is : (xs : List Device) → ltb 8 (length xs) ≡ false → rowAfter xs p e ≡ take (length xs) (stepReply (rowBus p xs) e .bus .devices)
+module _ (p : Phase) (e : SignalEvent) where
+  after-is : (xs : List Device) → ltb 8 (length xs) ≡ false → rowAfter xs p e ≡ take (length xs) (stepReply (rowBus p xs) (Signal e) .bus .devices)
   unfolding rowAfter
-  after-is xs h = rw (h, g) refl
+  after-is xs h = rw h refl
 
-  reply-is : (xs : List Device) → ltb 8 (length xs) ≡ false → rowReply xs p e ≡ rowReplied (stepReply (rowBus p xs) e)
+  reply-is : (xs : List Device) → ltb 8 (length xs) ≡ false → rowReply xs p e ≡ rowReplied (stepReply (rowBus p xs) (Signal e))
   unfolding rowReply
-  reply-is xs h = rw (h, g) refl
+  reply-is xs h = rw h refl
 
   -- the bus once the row is in it, and what it answers
   abbrev filled : List Device → Bus
@@ -200,10 +177,10 @@ module _ (p : Phase) (e : Event) (g : isSignal e ≡ true) where
       ap (λ (ds : List Device). record { phase = p; count = length xs; devices = ds ++ drop (length xs) (emptyBus .devices) }) (take-all xs)
 
   abbrev replied : List Device → Reply
-  replied xs = stepReply (filled xs) e
+  replied xs = stepReply (filled xs) (Signal e)
 
-  replied-is : (xs : List Device) → replied xs ≡ stepReply (rowBus p xs) e
-  replied-is xs = ap (λ (b : Bus). stepReply b e) (filled-is xs)
+  replied-is : (xs : List Device) → replied xs ≡ stepReply (rowBus p xs) (Signal e)
+  replied-is xs = ap (λ (b : Bus). stepReply b (Signal e)) (filled-is xs)
 
   -- the second pass ends
   ended : (xs ws : List Device) → ltb 8 (length xs) ≡ false → length ws ≡ length xs
@@ -241,17 +218,12 @@ module _ (p : Phase) (e : Event) (g : isSignal e ≡ true) where
       row-len = over-length n base xs few (le-refl n)
 
       bus-len : n ≤ length (replied xs .bus .devices)
-      bus-len = rw (step-length (filled xs) e g, over-length n xs base (le-refl n) few) few
+      bus-len = rw (step-length (filled xs) e, over-length n xs base (le-refl n) few) few
 
-  signal : (xs : List Device) → ltb 8 (length xs) ≡ false → Reach xs p e (turns xs e) xs (beginOf (length xs) p e)
+  signal : (xs : List Device) → ltb 8 (length xs) ≡ false → Reach xs p e (turns xs) xs (beginOf (length xs) p e)
   unfolding rowAfter rowReply beginOf
-  signal [] h = rw g (le-refl 0, (rw g refl, rw g refl))
-  signal (x ∷ l) h = rw (h, g, ne-eqb (length (x ∷ l)) 0 (λ z. omega arith)) (both x l h)
+  signal [] h = (le-refl 0, (refl, refl))
+  signal (x ∷ l) h = rw (h, ne-eqb (length (x ∷ l)) 0 (λ z. omega arith)) (both x l h)
 
-pub reached : (xs : List Device) (p : Phase) (e : Event) → Reach xs p e (turns xs e) xs (beginOf (length xs) p e)
-reached xs p e = go (ltb 8 (length xs)) refl (isSignal e) refl
-  where
-    go : (a : Bool) → ltb 8 (length xs) ≡ a → (c : Bool) → isSignal e ≡ c → Reach xs p e (turns xs e) xs (beginOf (length xs) p e)
-    go true h c g = too-long xs p e h
-    go false h true g = signal p e g xs h
-    go false h false g = foreign xs p e h g
+pub reached : (xs : List Device) (p : Phase) (e : SignalEvent) → Reach xs p e (turns xs) xs (beginOf (length xs) p e)
+reached xs p e = elim (tested (ltb 8 (length xs))) [ holds h ↦ too-long xs p e h | fails h ↦ signal p e xs h ]

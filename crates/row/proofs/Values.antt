@@ -6,14 +6,14 @@ use denote.Struct.Laws as LL
 use denote.Enum.Laws as EL
 use Rattle.device.specs.declared.Device.{Device}
 use Rattle.device.specs.declared.Phase.{Phase}
-use Rattle.bus.specs.declared.Event.{Event}
+use Rattle.bus.specs.declared.SignalEvent.{SignalEvent}
 use Rattle.row.specs.declared.RowReply.{RowReply}
 use Rattle.device.proofs.Device as T
 use Rattle.device.proofs.Device.Laws as T′
 use Rattle.device.proofs.Phase as F
 use Rattle.device.proofs.Phase.Laws as F′
-use Rattle.bus.proofs.Event as G
-use Rattle.bus.proofs.Event.Laws as G′
+use Rattle.bus.proofs.SignalEvent as G
+use Rattle.bus.proofs.SignalEvent.Laws as G′
 use Rattle.row.proofs.RowReply as N
 use Rattle.row.proofs.RowReply.Laws as N′
 
@@ -23,7 +23,7 @@ mach d = LL.val T.the-type T′.the-laws d
 abbrev pub f-mach : Phase → Val
 f-mach p = EL.val F.the-type F′.the-laws p
 
-abbrev pub g-mach : Event → Val
+abbrev pub g-mach : SignalEvent → Val
 g-mach e = EL.val G.the-type G′.the-laws e
 
 abbrev pub n-mach : RowReply → Val
@@ -35,7 +35,7 @@ IsD d = Is T.the-row d (mach d ∷ [])
 abbrev pub IsF : Phase → Type 0
 IsF p = Is F.the-row p (f-mach p ∷ [])
 
-abbrev pub IsG : Event → Type 0
+abbrev pub IsG : SignalEvent → Type 0
 IsG e = Is G.the-row e (g-mach e ∷ [])
 
 abbrev pub IsN : RowReply → Type 0

@@ -7,24 +7,24 @@ use Rattle.device.specs.declared.Phase.{Phase}
 use Rattle.bus.specs.Bus.{emptyBus, deviceAt, withDevice}
 use Rattle.bus.specs.Events.{stepReply}
 use Rattle.bus.specs.declared.Bus.{Bus}
-use Rattle.bus.specs.declared.Event.{Event}
-use Rattle.row.specs.Row.{isSignal, refusedRow, rowReplied}
+use Rattle.bus.specs.declared.Event.the-variants.{Signal}
+use Rattle.bus.specs.declared.SignalEvent.{SignalEvent}
+use Rattle.row.specs.Row.{refusedRow, rowReplied}
 use Rattle.row.specs.declared.Exchange.{Exchange}
 use Rattle.row.specs.declared.Swapped.{Swapped}
 
 -- no record has been exchanged yet
-abbrev pub exchangeOf : Phase → Event → ℕ → ℕ → Exchange
+abbrev pub exchangeOf : Phase → SignalEvent → ℕ → ℕ → Exchange
 exchangeOf p e n k =
     record { bus = record { phase = p; count = n; devices = emptyBus .devices }; event = e; length = n; index = 0; taken = false; reply = refusedRow p k }
 
 abbrev pub takenOf : Exchange → Exchange
 takenOf x =
-    record { bus = stepReply (x .bus) (x .event) .bus; event = x .event; length = x .length; index = 0; taken = true; reply = rowReplied (stepReply (x .bus) (x .event)) }
+    record { bus = stepReply (x .bus) (Signal (x .event)) .bus; event = x .event; length = x .length; index = 0; taken = true; reply = rowReplied (stepReply (x .bus) (Signal (x .event))) }
 
-unfoldable pub beginOf : ℕ → Phase → Event → Exchange
+unfoldable pub beginOf : ℕ → Phase → SignalEvent → Exchange
 beginOf n p e =
-    cond (ltb 8 n) (exchangeOf p e 0 3)
-    (cond (isSignal e) (cond (eqb n 0) (takenOf (exchangeOf p e 0 0)) (exchangeOf p e n 0)) (exchangeOf p e 0 4))
+    cond (ltb 8 n) (exchangeOf p e 0 3) (cond (eqb n 0) (takenOf (exchangeOf p e 0 0)) (exchangeOf p e n 0))
 
 -- the index of a record of a row of up to 8 moves on by one
 unfoldable pub indexAfter : ℕ → ℕ

@@ -1,6 +1,6 @@
 -- One start, stop, put or get on a lent row of records (01, "one call works on a lent row of device records"): what it answers, and the row afterwards.
 use Prim.Native.Nat.{ℕ}
-use mathlib.Core.Bool.{Bool, true, false, cond}
+use mathlib.Core.Bool.{cond}
 use mathlib.Core.List.{List, _++_}
 use lib.Dec.{ltb}
 use lib.ListN.{length, take, drop}
@@ -9,25 +9,11 @@ use Rattle.device.specs.declared.Phase.{Phase}
 use Rattle.bus.specs.Bus.{emptyBus}
 use Rattle.bus.specs.Events.{stepReply}
 use Rattle.bus.specs.declared.Bus.{Bus}
-use Rattle.bus.specs.declared.Event.{Event}
-use Rattle.bus.specs.declared.Event.the-variants.{Add, Start, Stop, Put, Get, Wait, Oe, Ext, Reset, Lit, Pin}
+use Rattle.bus.specs.declared.Event.the-variants.{Signal}
 use Rattle.bus.specs.declared.Reply.{Reply}
+use Rattle.bus.specs.declared.SignalEvent.{SignalEvent}
 use Rattle.row.specs.declared.RowReply.{RowReply}
 use Rattle.row.specs.declared.Rowed.{Rowed}
-
--- the events of a row
-abbrev pub isSignal : Event → Bool
-isSignal (Add chip addr) = false
-isSignal Start = true
-isSignal Stop = true
-isSignal (Put byte) = true
-isSignal (Get ack) = true
-isSignal (Wait dev ticks) = false
-isSignal (Oe dev level) = false
-isSignal (Ext dev level) = false
-isSignal (Reset dev) = false
-isSignal (Lit dev out ticks) = false
-isSignal (Pin dev out) = false
 
 -- the bus whose devices are the row's
 abbrev pub rowBus : Phase → List Device → Bus
@@ -40,15 +26,13 @@ refusedRow p k = record { code = k; value = 0; phase = p }
 abbrev pub rowReplied : Reply → RowReply
 rowReplied r = record { code = r .code; value = r .value; phase = r .bus .phase }
 
--- 3 a row longer than 8; 4 an event that is none of the four; otherwise what the bus answers
-unfoldable pub rowReply : List Device → Phase → Event → RowReply
-rowReply ds p e =
-    cond (ltb 8 (length ds)) (refusedRow p 3) (cond (isSignal e) (rowReplied (stepReply (rowBus p ds) e)) (refusedRow p 4))
+-- 3 a row longer than 8; otherwise what the bus answers
+unfoldable pub rowReply : List Device → Phase → SignalEvent → RowReply
+rowReply ds p e = cond (ltb 8 (length ds)) (refusedRow p 3) (rowReplied (stepReply (rowBus p ds) (Signal e)))
 
-unfoldable pub rowAfter : List Device → Phase → Event → List Device
-rowAfter ds p e =
-    cond (ltb 8 (length ds)) ds (cond (isSignal e) (take (length ds) (stepReply (rowBus p ds) e .bus .devices)) ds)
+unfoldable pub rowAfter : List Device → Phase → SignalEvent → List Device
+rowAfter ds p e = cond (ltb 8 (length ds)) ds (take (length ds) (stepReply (rowBus p ds) (Signal e) .bus .devices))
 
 -- the first n of some records are a row; the others stay
-unfoldable pub rowOf : List Device → ℕ → Phase → Event → Rowed
+unfoldable pub rowOf : List Device → ℕ → Phase → SignalEvent → Rowed
 rowOf ds n p e = record { devices = rowAfter (take n ds) p e ++ drop n ds; reply = rowReply (take n ds) p e }

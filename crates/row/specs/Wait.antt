@@ -6,7 +6,7 @@ use lib.Dec.{eqb}
 use Rattle.device.specs.WellFormed.{recordOk}
 use Rattle.device.specs.Wait.{overruns, waitedOf}
 use Rattle.device.specs.declared.Device.{Device}
-use Rattle.bus.specs.Refusals.{Refusal, refuse, codeOf}
+use Rattle.refusals.specs.Refusals.{Refusal, refuse, codeOf}
 use Rattle.row.specs.declared.Answer.{Answer}
 use Rattle.row.specs.declared.Waited.{Waited}
 

@@ -1,13 +1,15 @@
 // Calls on device records that are lent.
 use bus::Bus;
 use bus::Event;
+use bus::SignalEvent;
 use device::Device;
 use device::Phase;
+use refusals::or_refused;
 ghost use mathlib.Core.Path.{_≡_};
 ghost use Prim.Native.Nat.{_≤_, _<_};
-ghost use Rattle.bus.specs.Refusals.{codeOf};
+ghost use Rattle.refusals.specs.Refusals.{codeOf};
 ghost use Rattle.row.specs.Wait.{recordRefusals, waitRecord, waitAnswer, waitedRecord};
-ghost use Rattle.row.specs.Row.{isSignal, rowReply, rowAfter, rowOf};
+ghost use Rattle.row.specs.Row.{rowReply, rowAfter, rowOf};
 ghost use Rattle.row.specs.Exchange.{exchangeOf, takenOf, beginOf, indexAfter, movedOn, swapOf};
 
 // The number of a refusal, or 0, and the value.
@@ -25,15 +27,9 @@ fn wait_code(device: Device, ticks: u64) -> u64
     ensures { λ r. ⌜ r ≡ codeOf (recordRefusals device ticks) ⌝ }
 {
     let chip = device.chip;
-    if device::record::is_ok(device) {
-        if device::wait::overruns(device, device::wait::own_duration(chip, ticks)) {
-            6
-        } else {
-            0
-        }
-    } else {
-        4
-    }
+    let duration = device::wait::own_duration(chip, ticks);
+    let code = or_refused(0, 4, !device::record::is_ok(device));
+    or_refused(code, 6, device::wait::overruns(device, duration))
 }
 
 // The wait by value, of a bare number in the unit of the device's kind: the lent forms only copy and store.
@@ -93,7 +89,7 @@ pub struct RowReply {
 // length records take part, and index is the next of them.
 struct Exchange {
     bus: Bus,
-    event: Event,
+    event: SignalEvent,
     length: usize,
     index: usize,
     taken: bool,
@@ -105,30 +101,8 @@ struct Swapped {
     exchange: Exchange,
 }
 
-fn is_signal(event: Event) -> bool
-    ensures { λ r. ⌜ r ≡ isSignal event ⌝ }
-{
-    match event {
-        Event::Add { chip: _, addr: _ } => false,
-        Event::Start => true,
-        Event::Stop => true,
-        Event::Put(_) => true,
-        Event::Get(_) => true,
-        Event::Wait { dev: _, ticks: _ } => false,
-        Event::Oe { dev: _, level: _ } => false,
-        Event::Ext { dev: _, level: _ } => false,
-        Event::Reset { dev: _ } => false,
-        Event::Lit {
-            dev: _,
-            out: _,
-            ticks: _,
-        } => false,
-        Event::Pin { dev: _, out: _ } => false,
-    }
-}
-
 // The exchange before the first record; a code other than 0 is a refusal.
-fn exchange_of(phase: Phase, event: Event, length: usize, code: u64) -> Exchange
+fn exchange_of(phase: Phase, event: SignalEvent, length: usize, code: u64) -> Exchange
     requires { ⌜ length ≤ 8 ⌝ }
     ensures { λ r. ⌜ r ≡ exchangeOf phase event length code ⌝ }
 {
@@ -159,7 +133,7 @@ fn take_event(x: Exchange) -> Exchange
 {
     let bus = x.bus;
     let event = x.event;
-    let answer = bus::calls::step(bus, event);
+    let answer = bus::calls::step(bus, Event::Signal(event));
     let next = answer.bus;
     let phase = next.phase;
     let reply = RowReply {
@@ -177,20 +151,16 @@ fn take_event(x: Exchange) -> Exchange
     }
 }
 
-// A row that is refused for its length or its event takes part with no record.
-fn begin(length: usize, phase: Phase, event: Event) -> Exchange
+// A row that is refused for its length takes part with no record.
+fn begin(length: usize, phase: Phase, event: SignalEvent) -> Exchange
     ensures { λ r. ⌜ r ≡ beginOf length phase event ⌝ }
 {
     if 8 < length {
         exchange_of(phase, event, 0, 3)
-    } else if is_signal(event) {
-        if length == 0 {
-            take_event(exchange_of(phase, event, 0, 0))
-        } else {
-            exchange_of(phase, event, length, 0)
-        }
+    } else if length == 0 {
+        take_event(exchange_of(phase, event, 0, 0))
     } else {
-        exchange_of(phase, event, 0, 4)
+        exchange_of(phase, event, length, 0)
     }
 }
 
@@ -236,8 +206,8 @@ fn swap(device: Device, x: Exchange) -> Swapped
     }
 }
 
-// One start, stop, put or get on a lent row; any other event is refused. The bus judges every record before it changes one.
-pub fn event(row: &mut [Device], phase: Phase, event: Event) -> RowReply
+// One start, stop, put or get on a lent row. The bus judges every record before it changes one.
+pub fn event(row: &mut [Device], phase: Phase, event: SignalEvent) -> RowReply
     ensures { λ r. ⌜ (now (row .exit) ≡ rowAfter (now (row .entry)) phase event) × (r ≡ rowReply (now (row .entry)) phase event) ⌝ }
 {
     let mut x = begin(row.len(), phase, event);
@@ -255,7 +225,7 @@ pub struct Rowed {
     pub reply: RowReply,
 }
 
-fn event_within(devices: [Device; 9], n: usize, phase: Phase, event: Event) -> Rowed
+fn event_within(devices: [Device; 9], n: usize, phase: Phase, event: SignalEvent) -> Rowed
     requires { ⌜ n < 10 ⌝ }
     ensures { λ r. ⌜ r ≡ rowOf devices n phase event ⌝ }
 {
@@ -268,7 +238,7 @@ fn event_within(devices: [Device; 9], n: usize, phase: Phase, event: Event) -> R
 }
 
 // The same on the first n of nine records, for a caller that has them by value; on all nine for a larger n.
-pub fn event_of(devices: [Device; 9], n: usize, phase: Phase, event: Event) -> Rowed
+pub fn event_of(devices: [Device; 9], n: usize, phase: Phase, event: SignalEvent) -> Rowed
     ensures { λ r. ⌜ r ≡ rowOf devices n phase event ⌝ }
 {
     if n < 10 {

@@ -37,3 +37,8 @@ neither false b e = (refl, e)
 pub cond-below : {k : ℕ} (b : Bool) {x y : ℕ} → x < k → y < k → cond b x y < k
 cond-below true h h′ = h
 cond-below false h h′ = h′
+
+-- a function of one of two is that of each
+pub cond-of : {A B : Type 0} (f : A → B) (b : Bool) (x y : A) → f (cond b x y) ≡ cond b (f x) (f y)
+cond-of f true x y = refl
+cond-of f false x y = refl

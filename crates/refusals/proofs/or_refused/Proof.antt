@@ -1,5 +1,4 @@
 -- One refusal more: its number, or none, beside the code.
-use mathlib.Core.Path.{sym}
 use borrow.Author.Needs.{needs}
 use Rattle.refusals.specs.laws.Refusals.{least-zero}
 use Rattle.refusals.proofs.or_refused.Statement.{statement}

@@ -51,7 +51,7 @@ use denote.Exit.{yes}
 use borrow.Author.Tests.{lt-ltb, le-ltb}
 use Rattle.device.specs.declared.Device.{Device}
 use Rattle.device.specs.declared.Phase.{Phase}
-use Rattle.bus.specs.declared.Event.{Event}
+use Rattle.bus.specs.declared.SignalEvent.{SignalEvent}
 use Rattle.row.specs.Row.{rowAfter, rowReply}
 use Rattle.row.specs.Exchange.{beginOf, swapOf}
 use Rattle.row.specs.declared.RowReply.{RowReply}
@@ -63,8 +63,8 @@ use Rattle.device.proofs.Device as T
 use Rattle.device.proofs.Device.Laws as T′
 use Rattle.device.proofs.Phase as F
 use Rattle.device.proofs.Phase.Laws as F′
-use Rattle.bus.proofs.Event as G
-use Rattle.bus.proofs.Event.Laws as G′
+use Rattle.bus.proofs.SignalEvent as G
+use Rattle.bus.proofs.SignalEvent.Laws as G′
 use Rattle.row.proofs.RowReply as N
 use Rattle.row.proofs.RowReply.Laws as N′
 use Rattle.row.proofs.Exchange as X
@@ -104,7 +104,7 @@ only-is : (y : Exchange) (v : Val) → Is X.the-row y (v ∷ []) → IsX y
 only-is y v is = subst (λ (vs : List Val). Is X.the-row y vs) (LL.tells X.the-type X′.the-laws y _ is) is
 
 abbrev Arg : Type 0
-Arg = RefT (List Device) × (Phase × (Event × Unit {0}))
+Arg = RefT (List Device) × (Phase × (SignalEvent × Unit {0}))
 
 abbrev stayed : Stays (event.ended .signature .params) (event.ended .kept)
 stayed = (stay-slice (0 ∷ []) tt (plain (λ _. T.the-row)), (stay-none (λ _. F.the-row) yes, (stay-none (λ _. G.the-row) yes, tt)))
@@ -117,13 +117,13 @@ module _ {M : Type 1} (𝓤 : URA M) (H : Heap 𝓤) (A : Atoms 𝓤) (mem : Mem
   abbrev Swap : Contract 𝓤
   Swap = tripleOf 𝓤 H A swap.signature (swap.spec 𝓤 H A mem run)
 
-  begun : (n : ℕ) (p : Phase) (e : Event) (r : Exchange) → ent 𝓤 (ensured 𝓤 H A begin.ended (begin.clauses 𝓤 H A mem run) tt (n, (p, (e, tt))) tt r) (fact 𝓤 (r ≡ beginOf n p e))
+  begun : (n : ℕ) (p : Phase) (e : SignalEvent) (r : Exchange) → ent 𝓤 (ensured 𝓤 H A begin.ended (begin.clauses 𝓤 H A mem run) tt (n, (p, (e, tt))) tt r) (fact 𝓤 (r ≡ beginOf n p e))
   begun n p e r = exE 𝓤 _ (λ ws. snd∗ 𝓤 (sem 𝓤 H A (lasts begin.ended tt (n, (p, (e, tt))) ws)) (fact 𝓤 (r ≡ beginOf n p e)))
 
   swapped : (d : Device) (y : Exchange) (r : Swapped) → ent 𝓤 (ensured 𝓤 H A swap.ended (swap.clauses 𝓤 H A mem run) tt (d, (y, tt)) tt r) (fact 𝓤 (r ≡ swapOf d y))
   swapped d y r = exE 𝓤 _ (λ ws. snd∗ 𝓤 (sem 𝓤 H A (lasts swap.ended tt (d, (y, tt)) ws)) (fact 𝓤 (r ≡ swapOf d y)))
 
-module _ {M : Type 1} (𝓤 : URA M) (H : Heap 𝓤) (A : Atoms 𝓤) (W : Given 𝓤 H A) (at-mem : Memory → SProp 𝓤) (run : Routine → Fun 𝓤) (κ : Lft) (q : Share) (b o : ℕ) (γ : GName) (xs : List Device) (p : Phase) (e : Event) (room : Room T.the-row (length xs)) (gp : IsF p) (ge : IsG e) where
+module _ {M : Type 1} (𝓤 : URA M) (H : Heap 𝓤) (A : Atoms 𝓤) (W : Given 𝓤 H A) (at-mem : Memory → SProp 𝓤) (run : Routine → Fun 𝓤) (κ : Lft) (q : Share) (b o : ℕ) (γ : GName) (xs : List Device) (p : Phase) (e : SignalEvent) (room : Room T.the-row (length xs)) (gp : IsF p) (ge : IsG e) where
   abbrev n : ℕ
   n = length xs
 
@@ -275,8 +275,8 @@ module _ {M : Type 1} (𝓤 : URA M) (H : Heap 𝓤) (A : Atoms 𝓤) (W : Given
 
       looped : (y : Exchange) → y ≡ beginOf n p e → IsX y → Sq W (At xs y) (runs C Λ E mir.t-3 (atRet E Post))
       looped y y-is gy =
-          use0 W (given (Fact (turns xs e, (xs, y))) (‵ ftrue)) (guardI 𝓤 (Fact (turns xs e, (xs, y))) (emp 𝓤) (subst (λ (u : Exchange). Reach xs p e (turns xs e) xs u) (sym y-is) (reached xs p e), (refl, gy))) $
-          first ! $ blocks ! $ loops ! 𝓣 ≺ (InvImage·wf (λ (u : State). u .0) (Nat·lt-wfRel .wf)) Inv (λ u. turn-at (u .0) (u .1 .0) (u .1 .1)) (turns xs e, (xs, y))
+          use0 W (given (Fact (turns xs, (xs, y))) (‵ ftrue)) (guardI 𝓤 (Fact (turns xs, (xs, y))) (emp 𝓤) (subst (λ (u : Exchange). Reach xs p e (turns xs) xs u) (sym y-is) (reached xs p e), (refl, gy))) $
+          first ! $ blocks ! $ loops ! 𝓣 ≺ (InvImage·wf (λ (u : State). u .0) (Nat·lt-wfRel .wf)) Inv (λ u. turn-at (u .0) (u .1 .0) (u .1 .1)) (turns xs, (xs, y))
 
     -- the MIR, up to the loop
     walk : ent 𝓤 (onEntry 𝓤 H A event.signature (κ, tt) (q, tt) x vals) (WpFn 𝓤 H C Λ code.function (s ∷ f-mach p ∷ g-mach e ∷ []) Post)

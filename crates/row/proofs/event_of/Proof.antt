@@ -6,14 +6,14 @@ use lib.ListN.{length, drop-of-length-le}
 use lib.Seq.{take-all}
 use Rattle.device.specs.declared.Device.{Device}
 use Rattle.device.specs.declared.Phase.{Phase}
-use Rattle.bus.specs.declared.Event.{Event}
+use Rattle.bus.specs.declared.SignalEvent.{SignalEvent}
 use Rattle.row.specs.Row.{rowOf}
 use borrow.Author.Needs.{needs}
 use Rattle.row.proofs.event_of.Statement.{statement}
 use Rattle.row.proofs.event_of.Tie as tie
 
 -- any number from 9 on takes all nine records
-all-nine : (ds : List Device) (n : ℕ) (p : Phase) (e : Event) → length ds ≤ 9 → 9 ≤ n → rowOf ds 9 p e ≡ rowOf ds n p e
+all-nine : (ds : List Device) (n : ℕ) (p : Phase) (e : SignalEvent) → length ds ≤ 9 → 9 ≤ n → rowOf ds 9 p e ≡ rowOf ds n p e
 unfolding rowOf
 all-nine ds n p e h k =
     let m : length ds ≤ n = omega arith in

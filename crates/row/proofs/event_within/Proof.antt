@@ -53,7 +53,7 @@ use denote.Exit.{yes}
 use borrow.Table.Elements.{at, cut-app, join-app, same-len}
 use Rattle.device.specs.declared.Device.{Device}
 use Rattle.device.specs.declared.Phase.{Phase}
-use Rattle.bus.specs.declared.Event.{Event}
+use Rattle.bus.specs.declared.SignalEvent.{SignalEvent}
 use Rattle.row.specs.declared.Rowed.{Rowed}
 use Rattle.row.specs.declared.RowReply.{RowReply}
 use Rattle.row.specs.Row.{rowAfter, rowReply, rowOf}
@@ -62,8 +62,8 @@ use Rattle.device.proofs.Device as T
 use Rattle.device.proofs.Device.Laws as T′
 use Rattle.device.proofs.Phase as F
 use Rattle.device.proofs.Phase.Laws as F′
-use Rattle.bus.proofs.Event as G
-use Rattle.bus.proofs.Event.Laws as G′
+use Rattle.bus.proofs.SignalEvent as G
+use Rattle.bus.proofs.SignalEvent.Laws as G′
 use Rattle.row.proofs.Rowed as U
 use Rattle.row.proofs.Rowed.Laws as U′
 use Rattle.row.proofs.RowReply as N
@@ -144,7 +144,7 @@ module _ {M : Type 1} (𝓤 : URA M) (H : Heap 𝓤) (A : Atoms 𝓤) (mem : Mem
   abbrev EventC : Contract 𝓤
   EventC = tripleOf 𝓤 H A event.signature (event.spec 𝓤 H A mem run)
 
-module _ {M : Type 1} (𝓤 : URA M) (H : Heap 𝓤) (A : Atoms 𝓤) (W : Given 𝓤 H A) (at-mem : Memory → SProp 𝓤) (run : Routine → Fun 𝓤) (ds : List Device) (k : ℕ) (p : Phase) (ev : Event) (g : IsA ds) (few : k < 10) (gp : IsF p) (ge : IsG ev) where
+module _ {M : Type 1} (𝓤 : URA M) (H : Heap 𝓤) (A : Atoms 𝓤) (W : Given 𝓤 H A) (at-mem : Memory → SProp 𝓤) (run : Routine → Fun 𝓤) (ds : List Device) (k : ℕ) (p : Phase) (ev : SignalEvent) (g : IsA ds) (few : k < 10) (gp : IsF p) (ge : IsG ev) where
   k-fits : k < 2 ^ 64
   k-fits = omega (arith, few)
 
@@ -159,7 +159,7 @@ module _ {M : Type 1} (𝓤 : URA M) (H : Heap 𝓤) (A : Atoms 𝓤) (W : Given
   front-len = length-take-le k ds (within (g .1 .0 .1) few)
 
   abbrev Arg : Type 0
-  Arg = List Device × (ℕ × (Phase × (Event × Unit {0})))
+  Arg = List Device × (ℕ × (Phase × (SignalEvent × Unit {0})))
 
   abbrev x : Arg
   x = (ds, (k, (p, (ev, tt))))

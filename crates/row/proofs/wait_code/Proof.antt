@@ -1,39 +1,26 @@
--- `row::wait_code` meets its contract: the number is taken in the device's own unit.
-use mathlib.Core.Path.{_≡_, sym, ap, _∙_}
-use mathlib.Core.Bool.{Bool}
-use Prim.Native.Nat.{ℕ}
+-- The two refusals of a lent record; the number is taken in the device's own unit.
+use mathlib.Core.Path.{ap, _∙_}
+use mathlib.Core.Bool.{not}
+use mathlib.Core.List.{[], _∷_}
 use borrow.Author.Needs.{needs}
-use Rattle.lamp.specs.declared.Duration.{Duration}
-use Rattle.device.specs.Wait.{overruns, ownDuration, overrunsFor}
-use Rattle.device.specs.declared.Device.{Device}
+use Rattle.device.specs.Wait.{overrunsFor}
+use Rattle.device.specs.WellFormed.{recordOk}
 use Rattle.device.specs.laws.Wait.{bare-overruns}
-use Rattle.bus.specs.Refusals.{codeOf}
+use Rattle.refusals.specs.Refusals.{refuse}
+use Rattle.refusals.specs.laws.Refusals.{refused-first, refused-more}
 use Rattle.row.proofs.wait_code.Statement.{statement}
 use Rattle.row.proofs.wait_code.Tie as tie
 
--- the test of the wait, from what its calls ensure
-overruns-is : (d : Device) (ticks : ℕ) (w : Duration) (b : Bool) → w ≡ ownDuration (d .chip) ticks → b ≡ overrunsFor d w → b ≡ overruns d ticks
-overruns-is d ticks w b e f = f ∙ ap (overrunsFor d) e ∙ bare-overruns d ticks
-
 returns : tie.Need-returns
-unfolding codeOf
 returns c =
-    let o = c .before in
-    let u = o .before in
-    let k = u .before .before in
-    simp (sym (overruns-is _ _ _ _ (u .own-duration .ensures) (o .overruns .ensures)) ∙ c .if2 .taken, sym (k .is-ok .ensures) ∙ u .before .if1 .taken)
-
-returns-2 : tie.Need-returns-2
-unfolding codeOf
-returns-2 c =
-    let o = c .before in
-    let u = o .before in
-    let k = u .before .before in
-    simp (sym (overruns-is _ _ _ _ (u .own-duration .ensures) (o .overruns .ensures)) ∙ c .if2 .left, sym (k .is-ok .ensures) ∙ u .before .if1 .taken)
-
-returns-3 : tie.Need-returns-3
-unfolding codeOf
-returns-3 c = simp (sym (c .before .is-ok .ensures) ∙ c .if1 .left)
+    let long = c .before in
+    let code = long .before in
+    let ok = code .before in
+    let duration = ok .before in
+    let a = duration .before .args in
+    let first = refused-first 4 _ _ _ (ap not (ok .is-ok .ensures)) (code .or-refused .ensures) in
+    refused-more (refuse 4 (not (recordOk (a .device))) ∷ []) 6 _ _ _ _ first
+    (long .overruns .ensures ∙ ap (overrunsFor (a .device)) (duration .own-duration .ensures) ∙ bare-overruns (a .device) (a .ticks)) (c .or-refused2 .ensures)
 
 pub wait-code-spec : {M : Type 1} → statement M
-wait-code-spec = tie.close (tie.spec (λ c κs. search needs) (λ c κs. search needs) (λ c κs. search needs) returns returns-2 returns-3)
+wait-code-spec = tie.close (tie.spec (λ c κs. search needs) (λ c κs. search needs) (λ c κs. search needs) (λ c κs. search needs) (λ c κs. search needs) returns)

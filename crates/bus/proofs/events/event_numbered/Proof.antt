@@ -1,7 +1,6 @@
 -- Each number by itself, and any other.
 use borrow.Author.Tests.{ne-eqb}
 use Rattle.bus.specs.Events.{eventNumbered}
-use borrow.Author.Needs.{needs}
 use Rattle.bus.proofs.events.event_numbered.Statement.{statement}
 use Rattle.bus.proofs.events.event_numbered.Tie as tie
 

@@ -1,5 +1,5 @@
 -- By its code, which is that of the position and of the question, the answer or a refusal.
-use mathlib.Core.Path.{refl, sym, ap, _∙_}
+use mathlib.Core.Path.{sym, ap, _∙_}
 use Rattle.refusals.specs.laws.Refusals.{least-none, refused-both}
 use Rattle.refusals.specs.Refusals.{codeOf}
 use Rattle.bus.specs.laws.Replies.{answered, turned-away}

@@ -2,7 +2,7 @@
 use mathlib.Core.Path.{ap, _∙_}
 use Rattle.chip.specs.Kinds.{isDriver}
 use Rattle.device.specs.declared.Device.{Device}
-use Rattle.refusals.specs.laws.Refusals.{refused-first, refused-more}
+use Rattle.refusals.specs.laws.Refusals.{refused-more}
 use Rattle.bus.specs.Place.{placeRefusals}
 use borrow.Author.Needs.{needs}
 use Rattle.bus.proofs.place.blink_code.Statement.{statement}

@@ -1,10 +1,9 @@
 -- The refusals of a change, by what it is.
-use mathlib.Core.Path.{refl, ap, _∙_}
-use mathlib.Core.List.{[]}
+use mathlib.Core.Path.{ap, _∙_}
 use Rattle.device.specs.Wait.{overrunsFor}
 use Rattle.device.specs.laws.Wait.{bare-overruns}
 use Rattle.refusals.specs.Refusals.{codeOf}
-use Rattle.refusals.specs.laws.Refusals.{refused-first, refused-more}
+use Rattle.refusals.specs.laws.Refusals.{refused-first}
 use Rattle.bus.specs.Place.{changeRefusals}
 use borrow.Author.Needs.{needs}
 use Rattle.bus.proofs.place.change_code.Statement.{statement}

@@ -1,5 +1,5 @@
 -- The two refusals of a position.
-use mathlib.Core.Path.{refl, ap}
+use mathlib.Core.Path.{ap}
 use mathlib.Core.Bool.{not}
 use mathlib.Core.List.{[], _∷_}
 use Rattle.refusals.specs.Refusals.{refuse}

@@ -1,11 +1,7 @@
 -- The refusals of a question, by what it is.
-use mathlib.Core.Path.{refl, ap, _∙_}
-use mathlib.Core.List.{[], _∷_}
-use lib.Dec.{ltb}
-use Rattle.device.specs.laws.Wait.{own-amount, bare-overruns}
-use Rattle.refusals.specs.Refusals.{refuse}
+use mathlib.Core.Path.{ap, _∙_}
 use Rattle.refusals.specs.laws.Refusals.{refused-first, refused-more}
-use Rattle.bus.specs.Place.{isTooLong, questionRefusals}
+use Rattle.bus.specs.Place.{questionRefusals}
 use Rattle.bus.specs.Units.{isTooLongFor}
 use Rattle.bus.specs.laws.Units.{bare-too-long}
 use borrow.Author.Needs.{needs}

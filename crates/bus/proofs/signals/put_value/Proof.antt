@@ -1,6 +1,5 @@
 -- The value is 0 for the empty set, else 1.
 use borrow.Author.Tests.{eq-eqb, ne-eqb}
-use borrow.Author.Needs.{needs}
 use Rattle.bus.proofs.signals.put_value.Statement.{statement}
 use Rattle.bus.proofs.signals.put_value.Tie as tie
 

@@ -1,5 +1,5 @@
 -- The three refusals of a signal, one after the other.
-use mathlib.Core.Path.{refl, ap}
+use mathlib.Core.Path.{ap}
 use mathlib.Core.Bool.{not}
 use mathlib.Core.List.{[], _∷_}
 use Rattle.protocol.specs.Signal.{inTurn}

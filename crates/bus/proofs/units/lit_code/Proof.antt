@@ -4,7 +4,7 @@ use mathlib.Core.List.{[], _∷_}
 use mathlib.Core.List.{_++_}
 use Rattle.bus.specs.Bus.{deviceAt}
 use Rattle.refusals.specs.Refusals.{refuse}
-use Rattle.refusals.specs.laws.Refusals.{refused-first, refused-more}
+use Rattle.refusals.specs.laws.Refusals.{refused-more}
 use Rattle.bus.specs.Place.{placeRefusals, isMissing}
 use Rattle.bus.specs.Units.{isForeign, isTooLongFor}
 use borrow.Author.Needs.{needs}

@@ -5,7 +5,7 @@ use mathlib.Core.List.{_++_}
 use Rattle.device.specs.Wait.{overrunsFor}
 use Rattle.bus.specs.Bus.{deviceAt}
 use Rattle.refusals.specs.Refusals.{refuse}
-use Rattle.refusals.specs.laws.Refusals.{refused-first, refused-more}
+use Rattle.refusals.specs.laws.Refusals.{refused-more}
 use Rattle.bus.specs.Place.{placeRefusals}
 use Rattle.bus.specs.Units.{isForeign}
 use borrow.Author.Needs.{needs}
