@@ -8,7 +8,7 @@ use Rattle.chip.specs.Addresses.{addressAllowed}
 use Rattle.chip.specs.declared.Lookup.{Lookup}
 use Rattle.chip.specs.declared.Lookup.the-variants.{Known, Unknown}
 use Rattle.device.specs.Reset.{fresh}
-use Rattle.protocol.specs.Signal.{isOpen}
+use Rattle.protocol.specs.Signals.{isOpen}
 use Rattle.refusals.specs.Refusals.{Refusal, refuse}
 use Rattle.bus.specs.Bus.{busOk, withAdded}
 use Rattle.bus.specs.declared.Bus.{Bus}

@@ -6,10 +6,10 @@ use lib.Dec.{leb, ltb, eqb}
 use Rattle.lamp.specs.Window.{countLimit}
 use Rattle.chip.specs.Kinds.{isDriver, outputsOf}
 use Rattle.device.specs.Fields.{withOe, withLevels}
-use Rattle.device.specs.Reset.{resetOf}
+use Rattle.device.specs.Reset.{afterReset}
 use Rattle.device.specs.Output.{litOf, pinOf}
-use Rattle.device.specs.Wait.{overruns, waitedOf}
-use Rattle.device.specs.Blink.{commonStartOf}
+use Rattle.device.specs.Wait.{overruns, afterWait}
+use Rattle.device.specs.Start.{commonStartOf}
 use Rattle.device.specs.declared.Device.{Device}
 use Rattle.refusals.specs.Refusals.{Refusal, refuse}
 use Rattle.bus.specs.Bus.{busOk, hasDevice, deviceAt}
@@ -39,10 +39,10 @@ changeRefusals d (Ext level) = levelRefusals 255 level (isDriver (d .chip))
 changeRefusals d Reset = []
 
 unfoldable pub afterChange : Device → Change → Device
-afterChange d (Wait ticks) = waitedOf d ticks
+afterChange d (Wait ticks) = afterWait d ticks
 afterChange d (Oe level) = withOe d (eqb level 1)
 afterChange d (Ext level) = withLevels d level
-afterChange d Reset = resetOf d
+afterChange d Reset = afterReset d
 
 -- ---- what asks it
 

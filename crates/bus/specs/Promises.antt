@@ -12,7 +12,7 @@ use Rattle.basics.specs.laws.Logic.{holds, fails, tested}
 use Rattle.lamp.specs.Duration.{amount}
 use Rattle.lamp.specs.declared.Duration.{Duration}
 use Rattle.basics.specs.Bits.{mask, maskFirst}
-use Rattle.device.specs.Blink.{commonStartOf}
+use Rattle.device.specs.Start.{commonStartOf}
 use Rattle.device.specs.Wait.{isOwn}
 use Rattle.protocol.specs.Put.{acksTo}
 use Rattle.refusals.specs.Refusals.{codeOf}

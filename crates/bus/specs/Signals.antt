@@ -6,7 +6,7 @@ use lib.Dec.{ltb, eqb}
 use Rattle.basics.specs.Bits.{maskFirst}
 use Rattle.protocol.specs.Put.{acksTo}
 use Rattle.protocol.specs.Read.{talkOf}
-use Rattle.protocol.specs.Signal.{inTurn}
+use Rattle.protocol.specs.Signals.{inTurn}
 use Rattle.protocol.specs.declared.Signal.{Signal}
 use Rattle.protocol.specs.declared.Signal.the-variants as P
 use Rattle.refusals.specs.Refusals.{Refusal, refuse}

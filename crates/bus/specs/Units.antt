@@ -6,7 +6,7 @@ use lib.Dec.{ltb}
 use Rattle.lamp.specs.Window.{countLimit}
 use Rattle.lamp.specs.Duration.{amount}
 use Rattle.lamp.specs.declared.Duration.{Duration}
-use Rattle.device.specs.Wait.{isOwn, overrunsFor, waitedFor}
+use Rattle.device.specs.Wait.{isOwn, overrunsFor, afterWaitFor}
 use Rattle.device.specs.Output.{litFor}
 use Rattle.device.specs.declared.Device.{Device}
 use Rattle.refusals.specs.Refusals.{Refusal, refuse}
@@ -28,7 +28,7 @@ waitForRefusals b dev w =
     placeRefusals b dev ++ refuse 6 (overrunsFor (deviceAt b dev) w) ∷ refuse 10 (isForeign (deviceAt b dev) w) ∷ []
 
 unfoldable pub waitForReply : Bus → ℕ → Duration → Reply
-waitForReply b dev w = answer (waitForRefusals b dev w) b (doneWith 0 (withDevice b dev (waitedFor (deviceAt b dev) w)))
+waitForReply b dev w = answer (waitForRefusals b dev w) b (doneWith 0 (withDevice b dev (afterWaitFor (deviceAt b dev) w)))
 
 abbrev pub litForRefusals : Bus → ℕ → ℕ → Duration → List Refusal
 litForRefusals b dev out w =

@@ -39,7 +39,7 @@ fn add_code(ok: bool, bus: Bus, chip: u64, address: u64) -> u64
     let code = or_refused(code, 2, is_barred(found, address));
     let code = or_refused(code, 3, 8 <= bus.count);
     let code = or_refused(code, 4, !ok);
-    or_refused(code, 5, protocol::after::is_open(phase))
+    or_refused(code, 5, protocol::signals::is_open(phase))
 }
 
 fn added(bus: Bus, found: Lookup, address: u8) -> Bus

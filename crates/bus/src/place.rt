@@ -49,10 +49,10 @@ fn after_change(d: Device, change: Change) -> Device
 {
     let chip = d.chip;
     match change {
-        Change::Wait(ticks) => device::wait::waited(d, device::wait::own_duration(chip, ticks)),
+        Change::Wait(ticks) => device::wait::after_wait(d, device::wait::own_duration(chip, ticks)),
         Change::Oe(level) => device::with_oe(d, level == 1),
         Change::Ext(level) => device::with_levels(d, level as u8),
-        Change::Reset => device::reset(d),
+        Change::Reset => device::after_reset(d),
     }
 }
 

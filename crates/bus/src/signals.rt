@@ -8,7 +8,7 @@ use refusals::or_refused;
 ghost use mathlib.Core.Path.{_≡_};
 ghost use mathlib.Core.Bool.{false};
 ghost use Prim.Native.Nat.{_≤_};
-ghost use Rattle.protocol.specs.Signal.{inTurn};
+ghost use Rattle.protocol.specs.Signals.{inTurn};
 ghost use Rattle.refusals.specs.Refusals.{codeOf};
 ghost use Rattle.bus.specs.declared.Event.the-variants as E;
 ghost use Rattle.bus.specs.Bus.{busOk};
@@ -20,10 +20,10 @@ fn in_turn(phase: Phase, event: SignalEvent) -> bool
     ensures { λ r. ⌜ r ≡ inTurn phase (signalOf event) ⌝ }
 {
     match event {
-        SignalEvent::Start => protocol::after::in_turn(phase, Signal::Start),
-        SignalEvent::Stop => protocol::after::in_turn(phase, Signal::Stop),
-        SignalEvent::Put(_) => protocol::after::in_turn(phase, Signal::Put(0)),
-        SignalEvent::Get(_) => protocol::after::in_turn(phase, Signal::Get(false)),
+        SignalEvent::Start => protocol::signals::in_turn(phase, Signal::Start),
+        SignalEvent::Stop => protocol::signals::in_turn(phase, Signal::Stop),
+        SignalEvent::Put(_) => protocol::signals::in_turn(phase, Signal::Put(0)),
+        SignalEvent::Get(_) => protocol::signals::in_turn(phase, Signal::Get(false)),
     }
 }
 

@@ -4,7 +4,8 @@ use mathlib.Core.Bool.{Bool, true, _&&_}
 use mathlib.Core.List.{List, [], _∷_, _++_}
 use Prim.Native.Nat.{ℕ, _+_, _*_, _-_}
 use lib.Dec.{eqb}
-use Rattle.blink.specs.Start.{euclid, gcdOf, lcmOf, commonStart}
+use Rattle.basics.specs.Divisors.{euclid, gcdOf, lcmOf}
+use Rattle.blink.specs.Start.{commonStart}
 use Rattle.bus.specs.Bus.{emptyBus, busOk}
 use Rattle.bus.specs.Events.{stepReply, stepRefusals, stepDone}
 use Rattle.basics.specs.Bits.{maskFirst}
@@ -18,19 +19,19 @@ use Rattle.chip.specs.Registers.{pointed, isBuffered}
 use Rattle.chip.specs.Values.{resetRegisters, storedByte, readByte}
 use Rattle.device.specs.Output.{driverOutput, blinkerOutput, lampLit, litOf, pinOf, inputByte}
 use Rattle.device.specs.Registers.{inEffect, isAwake}
-use Rattle.device.specs.Reset.{resetOf}
-use Rattle.device.specs.Wait.{overruns, advanced, waitedOf}
+use Rattle.device.specs.Reset.{afterReset}
+use Rattle.device.specs.Wait.{overruns, advanced, afterWait}
 use Rattle.device.specs.WellFormed.{recordOk, wellFormed}
 use Rattle.lamp.specs.Blinker.{litBelow, litFrom, blinkerLit}
 use Rattle.lamp.specs.Driver.{individual, grouped, driverLit}
 use Rattle.lamp.specs.Window.{litTicks, countedTicks}
-use Rattle.protocol.specs.Put.{heardBy, acksTo}
-use Rattle.protocol.specs.Read.{registerByte, pointedByte, talkOf, movedOn, gottenFrom}
-use Rattle.protocol.specs.Selection.{ownAddress, answersShared, answers, stageAfter}
-use Rattle.protocol.specs.Signal.{phaseAfterSignal, deviceAfter}
+use Rattle.protocol.specs.Put.{afterPut, acksTo}
+use Rattle.protocol.specs.Read.{registerByte, pointedByte, talkOf, afterTalk, afterGet}
+use Rattle.protocol.specs.Selection.{ownAddress, answersShared, answers, stageAfterAddress}
+use Rattle.protocol.specs.Signals.{phaseAfterSignal, afterSignal}
 use Rattle.basics.specs.Tabulate.{tabulate}
-use Rattle.protocol.specs.Stop.{committed, effectOfStop, stoppedOf}
-use Rattle.protocol.specs.Write.{pointedAt, newByte, effectiveAfter, wakes, countAfter, storedIn, takenBy, acksData}
+use Rattle.protocol.specs.Stop.{committed, afterCommit, afterStop}
+use Rattle.protocol.specs.Write.{afterControl, newByte, effectiveAfterData, wakes, countAfterData, afterData, afterByte, acksData}
 use Rattle.bus.specs.declared.Bus.{Bus}
 use Rattle.bus.specs.declared.Event.{Event}
 use Rattle.bus.specs.declared.Change.the-variants.{Wait}
@@ -140,5 +141,5 @@ allPass [] = true
 allPass (row ∷ l) = passes emptyBus row && allPass l
 
 pub dozen : allPass table ≡ true
-unfolding allPass table passes euclid gcdOf lcmOf commonStart busOk stepReply stepRefusals stepDone mapFirst allFirst maskFirst andFirst least codeOf answer changeRefusals afterChange questionRefusals valueOf blinkReply addressAllowed controlLegal controlMoved pointed isBuffered resetRegisters storedByte readByte driverOutput blinkerOutput lampLit litOf pinOf inputByte inEffect isAwake resetOf overruns advanced waitedOf recordOk wellFormed litBelow litFrom blinkerLit individual grouped driverLit litTicks countedTicks heardBy acksTo registerByte pointedByte talkOf movedOn gottenFrom ownAddress answersShared answers stageAfter phaseAfterSignal deviceAfter tabulate committed effectOfStop stoppedOf pointedAt newByte effectiveAfter wakes countAfter storedIn takenBy acksData
+unfolding allPass table passes euclid gcdOf lcmOf commonStart busOk stepReply stepRefusals stepDone mapFirst allFirst maskFirst andFirst least codeOf answer changeRefusals afterChange questionRefusals valueOf blinkReply addressAllowed controlLegal controlMoved pointed isBuffered resetRegisters storedByte readByte driverOutput blinkerOutput lampLit litOf pinOf inputByte inEffect isAwake afterReset overruns advanced afterWait recordOk wellFormed litBelow litFrom blinkerLit individual grouped driverLit litTicks countedTicks afterPut acksTo registerByte pointedByte talkOf afterTalk afterGet ownAddress answersShared answers stageAfterAddress phaseAfterSignal afterSignal tabulate committed afterCommit afterStop afterControl newByte effectiveAfterData wakes countAfterData afterData afterByte acksData
 dozen = refl

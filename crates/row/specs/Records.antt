@@ -12,7 +12,7 @@ use Rattle.device.specs.declared.Device.{Device}
 use Rattle.device.specs.declared.Phase.{Phase}
 use Rattle.protocol.specs.Put.{acksTo}
 use Rattle.protocol.specs.Read.{talkOf}
-use Rattle.protocol.specs.Signal.{inTurn, phaseAfterSignal, deviceAfter}
+use Rattle.protocol.specs.Signals.{inTurn, phaseAfterSignal, afterSignal}
 use Rattle.refusals.specs.Refusals.{Refusal, refuse}
 use Rattle.bus.specs.Signals.{signalOf, isTooLarge, putValue}
 use Rattle.bus.specs.declared.Bus.{Bus}
@@ -22,7 +22,7 @@ use Rattle.row.specs.Row.{refusedRow, rowReply, rowAfter}
 use Rattle.row.specs.declared.RowReply.{RowReply}
 
 abbrev pub recordAfter : Phase → SignalEvent → Device → Device
-recordAfter p e = deviceAfter p (signalOf e)
+recordAfter p e = afterSignal p (signalOf e)
 
 -- a put's value is 1 if any record acknowledges, a get's the AND of all that talk
 abbrev pub rowValue : List Device → Phase → SignalEvent → ℕ

@@ -28,7 +28,7 @@ fn wait_code(device: Device, ticks: u64) -> u64
 {
     let chip = device.chip;
     let duration = device::wait::own_duration(chip, ticks);
-    let code = or_refused(0, 4, !device::record::is_ok(device));
+    let code = or_refused(0, 4, !device::well_formed::is_ok(device));
     or_refused(code, 6, device::wait::overruns(device, duration))
 }
 
@@ -44,7 +44,7 @@ pub fn waited_record(device: Device, ticks: u64) -> Waited
         value: 0,
     };
     if code == 0 {
-        let next = device::wait::waited(device, duration);
+        let next = device::wait::after_wait(device, duration);
         Waited {
             device: next,
             answer: answer,

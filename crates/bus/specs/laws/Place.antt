@@ -5,7 +5,7 @@ use Prim.Native.Nat.{ℕ, _<_}
 use native.Mathlib.Omega.{arith}
 use borrow.Author.Tests.{leb-false, ltb-false}
 use Rattle.chip.specs.Kinds.{outputsOf}
-use Rattle.chip.proofs.Laws.{outputs-few}
+use Rattle.chip.specs.laws.Registers.{outputs-few}
 use Rattle.device.specs.declared.Device.{Device}
 use Rattle.refusals.specs.Refusals.{codeOf}
 use Rattle.refusals.specs.laws.Refusals.{accepted}

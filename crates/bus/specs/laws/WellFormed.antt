@@ -18,7 +18,7 @@ use Rattle.device.specs.Promises.{fresh-well, reset-well, oe-well, levels-well,
 use Rattle.device.specs.laws.WellFormed.{well-formed-ok}
 use Rattle.device.specs.declared.Device.{Device}
 use Rattle.device.specs.declared.Phase.{Phase}
-use Rattle.protocol.specs.Signal.{inTurn, phaseAfterSignal, deviceAfter}
+use Rattle.protocol.specs.Signals.{inTurn, phaseAfterSignal, afterSignal}
 use Rattle.protocol.specs.Promises.{signal-well}
 use Rattle.protocol.specs.declared.Signal.{Signal}
 use Rattle.refusals.specs.Refusals.{holdsAt}
@@ -78,7 +78,7 @@ after-well s b t h =
     is-well (busAfter s b)
     (record {
       few = well b h .few;
-      each = all-mapped (wellFormed (b .phase)) (wellFormed (phaseAfterSignal (b .phase) s)) (deviceAfter (b .phase) s) (λ d k. signal-well (b .phase) s d t k) (b .count) (b .devices) (well b h .each);
+      each = all-mapped (wellFormed (b .phase)) (wellFormed (phaseAfterSignal (b .phase) s)) (afterSignal (b .phase) s) (λ d k. signal-well (b .phase) s d t k) (b .count) (b .devices) (well b h .each);
     })
 
 added-well : (b : Bus) (found : Lookup) (address : ℕ) → busOk b ≡ true → isBarred found address ≡ false → leb 8 (b .count) ≡ false → busOk (addedTo b found address) ≡ true

@@ -15,7 +15,7 @@ use Rattle.basics.specs.laws.Logic.{holds, fails, tested, cond-of}
 use Rattle.device.specs.WellFormed.{wellFormed}
 use Rattle.device.specs.declared.Device.{Device}
 use Rattle.device.specs.declared.Phase.{Phase}
-use Rattle.protocol.specs.Signal.{inTurn, phaseAfterSignal}
+use Rattle.protocol.specs.Signals.{inTurn, phaseAfterSignal}
 use Rattle.refusals.specs.Refusals.{refuse, least, codeOf}
 use Rattle.refusals.specs.laws.Refusals.{exact}
 use Rattle.bus.specs.Bus.{busOk, emptyBus}

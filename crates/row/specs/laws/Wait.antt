@@ -9,7 +9,7 @@ use borrow.Author.Tests.{eqb-true}
 use Rattle.basics.specs.laws.Logic.{holds, fails, tested}
 use Rattle.chip.specs.declared.Chip.the-variants.{Pca9635}
 use Rattle.device.specs.Reset.{fresh}
-use Rattle.device.specs.Wait.{waitedOf}
+use Rattle.device.specs.Wait.{afterWait}
 use Rattle.device.specs.laws.WellFormed.{well-formed-ok}
 use Rattle.refusals.specs.Refusals.{least, codeOf}
 use Rattle.bus.specs.Bus.{busOk, hasDevice, deviceAt}
@@ -36,6 +36,6 @@ module _ (b : Bus) (dev ticks : ℕ) (ok : busOk b ≡ true) (there : hasDevice 
       let k = codeOf (recordRefusals (deviceAt b dev) ticks) in
       rw same-code
       (elim (tested (eqb k 0)) [
-        | holds e ↦ rw e (sym (eqb-true k 0 e), (refl, getD-set-same (b .devices) dev (waitedOf (deviceAt b dev) ticks) (fresh Pca9635 0) l))
+        | holds e ↦ rw e (sym (eqb-true k 0 e), (refl, getD-set-same (b .devices) dev (afterWait (deviceAt b dev) ticks) (fresh Pca9635 0) l))
         | fails e ↦ rw e (refl, (refl, refl))
       ])

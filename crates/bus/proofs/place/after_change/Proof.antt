@@ -1,7 +1,7 @@
 -- The device after a change, by what it is; a level that is not refused is a byte.
 use mathlib.Core.Path.{ap, _∙_}
 use native.Mathlib.Omega.{arith}
-use Rattle.device.specs.Wait.{waitedFor}
+use Rattle.device.specs.Wait.{afterWaitFor}
 use Rattle.device.specs.laws.Wait.{bare-waited}
 use Rattle.bus.specs.Place.{afterChange}
 use Rattle.bus.specs.laws.Place.{ext-byte}
@@ -17,7 +17,7 @@ unfolding afterChange
 returns c =
     let duration = c .before in
     rw (duration .before .before .change .given .1)
-    (c .waited .ensures ∙ ap (waitedFor _) (duration .own-duration .ensures) ∙ bare-waited _ _)
+    (c .after-wait .ensures ∙ ap (afterWaitFor _) (duration .own-duration .ensures) ∙ bare-waited _ _)
 
 returns-2 : tie.Need-returns-2
 unfolding afterChange

@@ -2,7 +2,7 @@
 use mathlib.Core.Path.{ap}
 use mathlib.Core.Bool.{not}
 use mathlib.Core.List.{[], _∷_}
-use Rattle.protocol.specs.Signal.{inTurn}
+use Rattle.protocol.specs.Signals.{inTurn}
 use Rattle.refusals.specs.Refusals.{refuse}
 use Rattle.refusals.specs.laws.Refusals.{refused-first, refused-more}
 use Rattle.bus.specs.Bus.{busOk}
