@@ -1,5 +1,6 @@
 pub mod Logic
 pub mod Table
+pub mod Division
 pub mod Lists
 pub mod Tabulate
 pub mod Bits

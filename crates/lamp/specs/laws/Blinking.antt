@@ -8,10 +8,6 @@ use Rattle.lamp.specs.Window.{litTicks}
 use Rattle.lamp.specs.Driver.{individual, grouped}
 use Rattle.lamp.specs.laws.Count.{from, prefix, same, gate, cycle, from-zero, window}
 
--- each whole period among the first x ticks ends by x
-pub period-ends : (P x j : ℕ) → j < x / P → (j + 1) * P ≤ x
-period-ends P x j h = omega (arith, mul-le-mul-right P h, div-add-mod' x P)
-
 module _ (P L N : ℕ) where
   -- the first r ticks of the blink period j are lit as brightness N alone is, up to tick L of the period
   in-period : (j r : ℕ) → r ≤ P → litTicks (grouped P L N) (j * P) r ≡ litTicks (individual N) (j * P) (min r L)
