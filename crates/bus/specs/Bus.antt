@@ -8,7 +8,7 @@ use Rattle.device.specs.Reset.{fresh}
 use Rattle.device.specs.WellFormed.{wellFormed}
 use Rattle.device.specs.declared.Device.{Device}
 use Rattle.device.specs.declared.Phase.the-variants.{Idle}
-use Rattle.protocol.specs.Signal.{phaseAfterSignal, deviceAfter}
+use Rattle.protocol.specs.Signals.{phaseAfterSignal, afterSignal}
 use Rattle.protocol.specs.declared.Signal.{Signal}
 use Rattle.basics.specs.First.{mapFirst, allFirst}
 use Rattle.bus.specs.declared.Bus.{Bus}
@@ -34,7 +34,7 @@ withAdded b d = record { phase = b .phase; count = b .count + 1; devices = set (
 
 -- what a signal does: one function at every device
 abbrev pub busAfter : Signal → Bus → Bus
-busAfter s b = record { phase = phaseAfterSignal (b .phase) s; count = b .count; devices = mapFirst (b .count) (deviceAfter (b .phase) s) (b .devices) }
+busAfter s b = record { phase = phaseAfterSignal (b .phase) s; count = b .count; devices = mapFirst (b .count) (afterSignal (b .phase) s) (b .devices) }
 
 -- no device, no message; the places hold a record that no call looks at
 abbrev pub emptyBus : Bus

@@ -19,16 +19,16 @@ use Rattle.chip.specs.declared.Lookup.{Lookup}
 use Rattle.chip.specs.declared.Lookup.the-variants.{Known, Unknown}
 use Rattle.basics.specs.laws.Logic.{and-left, and-right}
 use Rattle.device.specs.Fields.{withOe, withLevels}
-use Rattle.device.specs.Reset.{fresh, resetOf}
+use Rattle.device.specs.Reset.{fresh, afterReset}
 use Rattle.basics.specs.Bits.{mask, maskFirst}
-use Rattle.device.specs.Wait.{waitedOf, isOwn}
+use Rattle.device.specs.Wait.{afterWait, isOwn}
 use Rattle.device.specs.WellFormed.{wellFormed}
 use Rattle.device.specs.Promises.{fresh-well, reset-well, oe-well, levels-well, waited-well}
 use Rattle.device.specs.laws.WellFormed.{well-formed-ok}
 use Rattle.device.specs.declared.Device.{Device}
 use Rattle.device.specs.declared.Phase.{Phase}
 use Rattle.protocol.specs.Put.{acksTo}
-use Rattle.protocol.specs.Signal.{inTurn, phaseAfterSignal, deviceAfter}
+use Rattle.protocol.specs.Signals.{inTurn, phaseAfterSignal, afterSignal}
 use Rattle.protocol.specs.Promises.{signal-well}
 use Rattle.protocol.specs.declared.Signal.{Signal}
 use Rattle.protocol.specs.declared.Signal.the-variants as S
@@ -282,7 +282,7 @@ after-well s b t h =
     is-well (busAfter s b)
     (record {
       few = well b h .few;
-      each = all-mapped (wellFormed (b .phase)) (wellFormed (phaseAfterSignal (b .phase) s)) (deviceAfter (b .phase) s) (λ d k. signal-well (b .phase) s d t k) (b .count) (b .devices) (well b h .each);
+      each = all-mapped (wellFormed (b .phase)) (wellFormed (phaseAfterSignal (b .phase) s)) (afterSignal (b .phase) s) (λ d k. signal-well (b .phase) s d t k) (b .count) (b .devices) (well b h .each);
     })
 
 added-well : (b : Bus) (found : Lookup) (address : ℕ) → busOk b ≡ true → isBarred found address ≡ false → leb 8 (b .count) ≡ false → busOk (addedTo b found address) ≡ true
@@ -302,13 +302,13 @@ done-well b Stop h n = after-well S.Stop b (not-false (inTurn (b .phase) S.Stop)
 done-well b (Put byte) h n = after-well (S.Put byte) b (not-false (inTurn (b .phase) (S.Put byte)) (n .1 .0)) h
 done-well b (Get ack) h n = after-well (S.Get (eqb ack 1)) b (not-false (inTurn (b .phase) (S.Get (eqb ack 1))) (n .1 .0)) h
 done-well b (Wait dev ticks) h n =
-    with-device-well b dev (waitedOf (deviceAt b dev) ticks) h (waited-well (b .phase) ticks (deviceAt b dev) (device-well b dev h (not-false (hasDevice b dev) (n .0))))
+    with-device-well b dev (afterWait (deviceAt b dev) ticks) h (waited-well (b .phase) ticks (deviceAt b dev) (device-well b dev h (not-false (hasDevice b dev) (n .0))))
 done-well b (Oe dev level) h n =
     with-device-well b dev (withOe (deviceAt b dev) (eqb level 1)) h (oe-well (b .phase) (eqb level 1) (deviceAt b dev) (device-well b dev h (not-false (hasDevice b dev) (n .0))))
 done-well b (Ext dev level) h n =
     with-device-well b dev (withLevels (deviceAt b dev) level) h (levels-well (b .phase) level (deviceAt b dev) (device-well b dev h (not-false (hasDevice b dev) (n .0))))
 done-well b (Reset dev) h n =
-    with-device-well b dev (resetOf (deviceAt b dev)) h (reset-well (b .phase) (deviceAt b dev) (well-formed-ok (b .phase) (deviceAt b dev) (device-well b dev h (not-false (hasDevice b dev) (n .0)))))
+    with-device-well b dev (afterReset (deviceAt b dev)) h (reset-well (b .phase) (deviceAt b dev) (well-formed-ok (b .phase) (deviceAt b dev) (device-well b dev h (not-false (hasDevice b dev) (n .0)))))
 done-well b (Lit dev out ticks) h n = h
 done-well b (Pin dev out) h n = h
 

@@ -9,13 +9,13 @@ use Rattle.chip.specs.Addresses.{addressAllowed}
 use Rattle.chip.specs.declared.Lookup.{Lookup}
 use Rattle.chip.specs.declared.Lookup.the-variants.{Known, Unknown}
 use Rattle.device.specs.Fields.{withOe, withLevels}
-use Rattle.device.specs.Reset.{fresh, resetOf}
+use Rattle.device.specs.Reset.{fresh, afterReset}
 use Rattle.device.specs.Output.{litOf, pinOf}
-use Rattle.device.specs.Wait.{overruns, waitedOf}
-use Rattle.device.specs.Blink.{commonStartOf}
+use Rattle.device.specs.Wait.{overruns, afterWait}
+use Rattle.device.specs.Start.{commonStartOf}
 use Rattle.protocol.specs.Put.{acksTo}
 use Rattle.protocol.specs.Read.{talkOf}
-use Rattle.protocol.specs.Signal.{isOpen, inTurn}
+use Rattle.protocol.specs.Signals.{isOpen, inTurn}
 use Rattle.protocol.specs.declared.Signal.{Signal}
 use Rattle.protocol.specs.declared.Signal.the-variants as S
 use Rattle.basics.specs.Bits.{maskFirst}
@@ -126,7 +126,7 @@ abbrev pub waitRefusals : Bus → ℕ → ℕ → List Refusal
 waitRefusals b dev ticks = placeRefusals b dev ++ refuse 6 (overruns (deviceAt b dev) ticks) ∷ []
 
 abbrev pub waitDone : Bus → ℕ → ℕ → Reply
-waitDone b dev ticks = doneWith 0 (withDevice b dev (waitedOf (deviceAt b dev) ticks))
+waitDone b dev ticks = doneWith 0 (withDevice b dev (afterWait (deviceAt b dev) ticks))
 
 unfoldable pub waitReply : Bus → ℕ → ℕ → Reply
 waitReply b dev ticks = answer (waitRefusals b dev ticks) b (waitDone b dev ticks)
@@ -154,7 +154,7 @@ unfoldable pub extReply : Bus → ℕ → ℕ → Reply
 extReply b dev level = answer (extRefusals b dev level) b (extDone b dev level)
 
 abbrev pub resetDone : Bus → ℕ → Reply
-resetDone b dev = doneWith 0 (withDevice b dev (resetOf (deviceAt b dev)))
+resetDone b dev = doneWith 0 (withDevice b dev (afterReset (deviceAt b dev)))
 
 unfoldable pub resetReply : Bus → ℕ → Reply
 resetReply b dev = answer (placeRefusals b dev) b (resetDone b dev)

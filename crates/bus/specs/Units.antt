@@ -6,7 +6,7 @@ use lib.Dec.{ltb}
 use Rattle.lamp.specs.Window.{countLimit}
 use Rattle.lamp.specs.Duration.{amount}
 use Rattle.lamp.specs.declared.Duration.{Duration}
-use Rattle.device.specs.Wait.{isOwn, overrunsFor, waitedFor}
+use Rattle.device.specs.Wait.{isOwn, overrunsFor, afterWaitFor}
 use Rattle.device.specs.Output.{litFor}
 use Rattle.bus.specs.Refusals.{Refusal, refuse}
 use Rattle.bus.specs.Bus.{deviceAt, withDevice}
@@ -23,7 +23,7 @@ waitForRefusals b dev w =
     placeRefusals b dev ++ refuse 6 (overrunsFor (deviceAt b dev) w) ∷ refuse 10 (isForeign b dev w) ∷ []
 
 abbrev pub waitForDone : Bus → ℕ → Duration → Reply
-waitForDone b dev w = doneWith 0 (withDevice b dev (waitedFor (deviceAt b dev) w))
+waitForDone b dev w = doneWith 0 (withDevice b dev (afterWaitFor (deviceAt b dev) w))
 
 unfoldable pub waitForReply : Bus → ℕ → Duration → Reply
 waitForReply b dev w = answer (waitForRefusals b dev w) b (waitForDone b dev w)

@@ -36,7 +36,7 @@ fn state_code(ok: bool, bus: Bus) -> u64
     if 8 <= bus.count {
         3
     } else if ok {
-        if protocol::after::is_open(phase) {
+        if protocol::signals::is_open(phase) {
             5
         } else {
             0

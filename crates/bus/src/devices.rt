@@ -14,7 +14,7 @@ ghost use Rattle.device.specs.Reset.{fresh};
 ghost use Rattle.device.specs.WellFormed.{wellFormed};
 ghost use Rattle.protocol.specs.Put.{acksTo};
 ghost use Rattle.protocol.specs.Read.{talkOf};
-ghost use Rattle.protocol.specs.Signal.{deviceAfter};
+ghost use Rattle.protocol.specs.Signals.{afterSignal};
 ghost use Rattle.basics.specs.First.{mapFirst, allFirst, andFirst};
 ghost use Rattle.bus.specs.Bus.{busOk, hasDevice, deviceAt, withDevice, busAfter};
 
@@ -23,7 +23,7 @@ fn all_ok(devices: [Device; 8], n: usize, phase: Phase) -> bool
     ensures { λ r. ⌜ r ≡ allFirst n (wellFormed phase) devices ⌝ }
 {
     for i in 0..n {
-        if device::record::is_well_formed(phase, devices[i]) {} else {
+        if device::well_formed::is_well_formed(phase, devices[i]) {} else {
             return false;
         }
     }
@@ -91,11 +91,11 @@ pub fn with_device(bus: Bus, dev: u64, d: Device) -> Bus
 
 fn all_after(devices: [Device; 8], n: usize, phase: Phase, signal: Signal) -> [Device; 8]
     requires { ⌜ n ≤ 8 ⌝ }
-    ensures { λ r. ⌜ r ≡ mapFirst n (deviceAfter phase signal) devices ⌝ }
+    ensures { λ r. ⌜ r ≡ mapFirst n (afterSignal phase signal) devices ⌝ }
 {
     let mut next = devices;
     for i in 0..n {
-        next[i] = protocol::after::device_after(phase, signal, next[i]);
+        next[i] = protocol::signals::after_signal(phase, signal, next[i]);
     }
     next
 }
@@ -109,7 +109,7 @@ pub fn after(signal: Signal, bus: Bus) -> Bus
     let devices = bus.devices;
     let next = all_after(devices, bus.count as usize, phase, signal);
     Bus {
-        phase: protocol::after::phase_after(phase, signal),
+        phase: protocol::signals::phase_after_signal(phase, signal),
         count: bus.count,
         devices: next,
     }

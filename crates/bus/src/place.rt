@@ -82,7 +82,7 @@ pub fn reset(ok: bool, bus: Bus, dev: u64) -> Reply
 {
     let code = place_code(ok, bus, dev);
     if code == 0 {
-        let next = device::reset(crate::devices::device_at(bus, dev));
+        let next = device::after_reset(crate::devices::device_at(bus, dev));
         crate::done(0, crate::devices::with_device(bus, dev, next))
     } else {
         crate::refused(bus, code)

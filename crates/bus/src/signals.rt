@@ -15,7 +15,7 @@ fn signal_code(ok: bool, bus: Bus, signal: Signal) -> u64
 {
     let phase = bus.phase;
     if ok {
-        if protocol::after::in_turn(phase, signal) {
+        if protocol::signals::in_turn(phase, signal) {
             0
         } else {
             5

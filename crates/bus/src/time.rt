@@ -46,7 +46,7 @@ pub fn wait_for(ok: bool, bus: Bus, dev: u64, duration: Duration) -> Reply
 {
     let code = wait_code(ok, bus, dev, duration);
     if code == 0 {
-        let next = device::wait::waited(crate::devices::device_at(bus, dev), duration);
+        let next = device::wait::after_wait(crate::devices::device_at(bus, dev), duration);
         crate::done(0, crate::devices::with_device(bus, dev, next))
     } else {
         crate::refused(bus, code)

@@ -10,8 +10,8 @@ use Rattle.basics.specs.laws.Logic.{tested, holds, fails}
 use Rattle.chip.specs.declared.Chip.{Chip}
 use Rattle.device.specs.Fields.{withCount, withOe, withLevels}
 use Rattle.device.specs.Registers.{isAwake}
-use Rattle.device.specs.Reset.{fresh, resetOf}
-use Rattle.device.specs.Wait.{advanced, waitedOf}
+use Rattle.device.specs.Reset.{fresh, afterReset}
+use Rattle.device.specs.Wait.{advanced, afterWait}
 use Rattle.device.specs.WellFormed.{recordOk, wellFormed}
 use Rattle.device.specs.laws.WellFormed.{ok, fits, well, well-formed-ok, zero-within, WellIn}
 use Rattle.device.specs.declared.Device.{Device}
@@ -21,9 +21,9 @@ pub fresh-well : (p : Phase) (chip : Chip) (address : ℕ) → addressAllowed ch
 fresh-well p chip address h =
     well p (fresh chip address) (record { legal = reset-legal chip; allowed = h; within = zero-within }) refl
 
-pub reset-well : (p : Phase) (d : Device) → recordOk d ≡ true → wellFormed p (resetOf d) ≡ true
-unfolding resetOf
-reset-well p d h = well p (resetOf d) (record { legal = reset-legal (d .chip); allowed = ok d h .allowed; within = zero-within }) refl
+pub reset-well : (p : Phase) (d : Device) → recordOk d ≡ true → wellFormed p (afterReset d) ≡ true
+unfolding afterReset
+reset-well p d h = well p (afterReset d) (record { legal = reset-legal (d .chip); allowed = ok d h .allowed; within = zero-within }) refl
 
 pub oe-well : (p : Phase) (oe : Bool) (d : Device) → wellFormed p d ≡ true → wellFormed p (withOe d oe) ≡ true
 oe-well p oe d h = well p (withOe d oe) (ok d (well-formed-ok p d h)) (fits p d h)
@@ -36,8 +36,8 @@ unfolding advanced
 advanced-within t w h =
     elim (tested (leb (t + w) countLimit)) [ holds e ↦ rw (e, e) | fails e ↦ rw e h ]
 
-pub waited-well : (p : Phase) (w : ℕ) (d : Device) → wellFormed p d ≡ true → wellFormed p (waitedOf d w) ≡ true
-unfolding waitedOf
+pub waited-well : (p : Phase) (w : ℕ) (d : Device) → wellFormed p d ≡ true → wellFormed p (afterWait d w) ≡ true
+unfolding afterWait
 waited-well p w d h =
     let o = ok d (well-formed-ok p d h) in
     elim (tested (isAwake d)) [

@@ -17,19 +17,19 @@ use Rattle.chip.specs.Registers.{pointed, isBuffered}
 use Rattle.chip.specs.Values.{resetRegisters, storedByte, readByte}
 use Rattle.device.specs.Output.{driverOutput, blinkerOutput, lampLit, litOf, pinOf, inputByte}
 use Rattle.device.specs.Registers.{inEffect, isAwake}
-use Rattle.device.specs.Reset.{resetOf}
-use Rattle.device.specs.Wait.{overruns, advanced, waitedOf}
+use Rattle.device.specs.Reset.{afterReset}
+use Rattle.device.specs.Wait.{overruns, advanced, afterWait}
 use Rattle.device.specs.WellFormed.{recordOk, wellFormed}
 use Rattle.lamp.specs.Blinker.{litBelow, litFrom, blinkerLit}
 use Rattle.lamp.specs.Driver.{individual, grouped, driverLit}
 use Rattle.lamp.specs.Window.{litTicks, countedTicks}
-use Rattle.protocol.specs.Put.{heardBy, acksTo}
-use Rattle.protocol.specs.Read.{registerByte, pointedByte, talkOf, movedOn, gottenFrom}
-use Rattle.protocol.specs.Selection.{ownAddress, answersShared, answers, stageAfter}
-use Rattle.protocol.specs.Signal.{phaseAfterSignal, deviceAfter}
+use Rattle.protocol.specs.Put.{afterPut, acksTo}
+use Rattle.protocol.specs.Read.{registerByte, pointedByte, talkOf, afterTalk, afterGet}
+use Rattle.protocol.specs.Selection.{ownAddress, answersShared, answers, stageAfterAddress}
+use Rattle.protocol.specs.Signals.{phaseAfterSignal, afterSignal}
 use Rattle.basics.specs.Tabulate.{tabulate}
-use Rattle.protocol.specs.Stop.{committed, effectOfStop, stoppedOf}
-use Rattle.protocol.specs.Write.{pointedAt, newByte, effectiveAfter, wakes, countAfter, storedIn, takenBy, acksData}
+use Rattle.protocol.specs.Stop.{committed, afterCommit, afterStop}
+use Rattle.protocol.specs.Write.{afterControl, newByte, effectiveAfterData, wakes, countAfterData, afterData, afterByte, acksData}
 use Rattle.bus.specs.declared.Bus.{Bus}
 use Rattle.bus.specs.declared.Event.{Event}
 use Rattle.bus.specs.declared.Event.the-variants.{Add, Start, Stop, Put, Get, Wait, Lit}
@@ -121,5 +121,5 @@ allPass [] = true
 allPass (row ∷ l) = passes emptyBus row && allPass l
 
 pub dozen : allPass table ≡ true
-unfolding allPass table passes euclid gcdOf lcmOf commonStart busOk stepReply stepRefusals stepDone numberedReply mapFirst allFirst maskFirst andFirst codeOf answer signalReply putReply getReply addReply waitReply oeReply extReply resetReply litReply pinReply blinkReply addressAllowed controlLegal controlMoved pointed isBuffered resetRegisters storedByte readByte driverOutput blinkerOutput lampLit litOf pinOf inputByte inEffect isAwake resetOf overruns advanced waitedOf recordOk wellFormed litBelow litFrom blinkerLit individual grouped driverLit litTicks countedTicks heardBy acksTo registerByte pointedByte talkOf movedOn gottenFrom ownAddress answersShared answers stageAfter phaseAfterSignal deviceAfter tabulate committed effectOfStop stoppedOf pointedAt newByte effectiveAfter wakes countAfter storedIn takenBy acksData
+unfolding allPass table passes euclid gcdOf lcmOf commonStart busOk stepReply stepRefusals stepDone numberedReply mapFirst allFirst maskFirst andFirst codeOf answer signalReply putReply getReply addReply waitReply oeReply extReply resetReply litReply pinReply blinkReply addressAllowed controlLegal controlMoved pointed isBuffered resetRegisters storedByte readByte driverOutput blinkerOutput lampLit litOf pinOf inputByte inEffect isAwake afterReset overruns advanced afterWait recordOk wellFormed litBelow litFrom blinkerLit individual grouped driverLit litTicks countedTicks afterPut acksTo registerByte pointedByte talkOf afterTalk afterGet ownAddress answersShared answers stageAfterAddress phaseAfterSignal afterSignal tabulate committed afterCommit afterStop afterControl newByte effectiveAfterData wakes countAfterData afterData afterByte acksData
 dozen = refl

@@ -22,12 +22,12 @@ use Rattle.device.specs.declared.Phase.{Phase}
 use Rattle.device.specs.declared.Phase.the-variants as P
 use Rattle.device.specs.declared.Stage.{Stage}
 use Rattle.device.specs.declared.Stage.the-variants.{Unselected, Control, Data, Talking, ResetCall, ResetFirst, ResetBoth}
-use Rattle.protocol.specs.Selection.{ownAddress, sharedBy, answersShared, answers, stageAfter}
-use Rattle.protocol.specs.Write.{pointedAt, effectiveAfter, storedIn, takenAt, takenBy}
-use Rattle.protocol.specs.Put.{isSelected, heardBy, acksTo}
-use Rattle.protocol.specs.Read.{isTalking, movedOn, gottenFrom}
-use Rattle.protocol.specs.Stop.{committedAt, committed, effectOfStop, tookReset, stoppedOf}
-use Rattle.protocol.specs.Signal.{phaseAfterSignal, deviceAfter}
+use Rattle.protocol.specs.Selection.{ownAddress, sharedBy, answersShared, answers, stageAfterAddress}
+use Rattle.protocol.specs.Write.{afterControl, effectiveAfterData, afterData, afterByteAt, afterByte}
+use Rattle.protocol.specs.Put.{isSelected, afterPut, acksTo}
+use Rattle.protocol.specs.Read.{isTalking, afterTalk, afterGet}
+use Rattle.protocol.specs.Stop.{committedAt, committed, afterCommit, tookReset, afterStop}
+use Rattle.protocol.specs.Signals.{phaseAfterSignal, afterSignal}
 use Rattle.protocol.specs.declared.Signal.{Signal}
 use Rattle.protocol.specs.declared.Signal.the-variants.{Start, Stop, Put, Get}
 
@@ -54,7 +54,7 @@ shared-answered d k r address lets h =
 
 -- a driver acknowledges each shared address that MODE1 lets it answer, but for address 3 (06h, 07h: the software reset call's), whatever its own address is, awake or asleep, for reads and writes alike
 pub shared-call-heard : (d : Device) (k r byte : ℕ) → isDriver (d .chip) ≡ true → Lets (outputsOf (d .chip)) k r → bit k (held d mode1) ≡ true → held d r / 2 ≡ byte / 2 → (byte / 2 ≡ 3 → ⊥) → acksTo P.Address byte d ≡ true
-unfolding acksTo stageAfter answers
+unfolding acksTo stageAfterAddress answers
 shared-call-heard d k r byte driver lets on e other =
     rw (ne-eqb (byte / 2) 3 other, driver, shared-answered d k r (byte / 2) lets (rw (on, eq-eqb (held d r / 2) (byte / 2) e) refl))
     (go (eqb (ownAddress d) (byte / 2)) (eqb (byte % 2) 0))
@@ -67,15 +67,15 @@ shared-call-heard d k r byte driver lets on e other =
 
 -- ---- nothing before STOP
 
-stored-same : (byte : ℕ) (d : Device) → isOch d ≡ false → storedIn byte d .effective ≡ d .effective
-unfolding storedIn effectiveAfter
+stored-same : (byte : ℕ) (d : Device) → isOch d ≡ false → afterData byte d .effective ≡ d .effective
+unfolding afterData effectiveAfterData
 stored-same byte d o = rw (o, and-false (isBuffered (d .chip) (pointer d) && isAwake d)) refl
 
-pointed-same : (byte : ℕ) (d : Device) → pointedAt byte d .effective ≡ d .effective
-unfolding pointedAt
+pointed-same : (byte : ℕ) (d : Device) → afterControl byte d .effective ≡ d .effective
+unfolding afterControl
 pointed-same byte d = elim (tested (controlLegal (d .chip) byte)) [ holds e ↦ rw e | fails e ↦ rw e ]
 
-taken-same : (byte : ℕ) (d : Device) (s : Stage) → isOch d ≡ false → takenAt s byte d .effective ≡ d .effective
+taken-same : (byte : ℕ) (d : Device) (s : Stage) → isOch d ≡ false → afterByteAt s byte d .effective ≡ d .effective
 taken-same byte d Unselected o = refl
 taken-same byte d Control o = pointed-same byte d
 taken-same byte d Data o = stored-same byte d o
@@ -84,20 +84,20 @@ taken-same byte d ResetCall o = refl
 taken-same byte d ResetFirst o = refl
 taken-same byte d ResetBoth o = refl
 
-put-same : (p : Phase) (byte : ℕ) (d : Device) → isOch d ≡ false → heardBy p byte d .effective ≡ d .effective
-unfolding heardBy takenBy
+put-same : (p : Phase) (byte : ℕ) (d : Device) → isOch d ≡ false → afterPut p byte d .effective ≡ d .effective
+unfolding afterPut afterByte
 put-same P.Address byte d o = refl
 put-same P.Write byte d o = taken-same byte d (d .stage) o
 put-same P.Idle byte d o = refl
 put-same P.Read byte d o = refl
 put-same P.Ended byte d o = refl
 
-moved-same : (d : Device) → movedOn d .effective ≡ d .effective
-unfolding movedOn
+moved-same : (d : Device) → afterTalk d .effective ≡ d .effective
+unfolding afterTalk
 moved-same d = elim (tested (isTalking (d .stage))) [ holds e ↦ rw e | fails e ↦ rw e ]
 
-get-same : (ack : Bool) (d : Device) → gottenFrom ack d .effective ≡ d .effective
-unfolding gottenFrom
+get-same : (ack : Bool) (d : Device) → afterGet ack d .effective ≡ d .effective
+unfolding afterGet
 get-same true d = moved-same d
 get-same false d = moved-same d
 
@@ -108,28 +108,28 @@ isStop (Put byte) = false
 isStop (Get ack) = false
 
 -- with OCH 0 no signal but STOP changes what is in effect
-pub before-stop-same : (p : Phase) (s : Signal) (d : Device) → isOch d ≡ false → isStop s ≡ false → deviceAfter p s d .effective ≡ d .effective
-unfolding deviceAfter
+pub before-stop-same : (p : Phase) (s : Signal) (d : Device) → isOch d ≡ false → isStop s ≡ false → afterSignal p s d .effective ≡ d .effective
+unfolding afterSignal
 before-stop-same p Start d o n = refl
 before-stop-same p Stop d o n = absurd (true≢false n)
 before-stop-same p (Put byte) d o n = put-same p byte d o
 before-stop-same p (Get ack) d o n = get-same ack d
 
 -- a device after a run of signals
-abbrev pub deviceAfterAll : Phase → Device → List Signal → Device
-deviceAfterAll p d [] = d
-deviceAfterAll p d (s ∷ l) = deviceAfterAll (phaseAfterSignal p s) (deviceAfter p s d) l
+abbrev pub afterSignals : Phase → Device → List Signal → Device
+afterSignals p d [] = d
+afterSignals p d (s ∷ l) = afterSignals (phaseAfterSignal p s) (afterSignal p s d) l
 
 -- no STOP among the signals, and OCH 0 at each of them
 abbrev pub OpenWithoutOch : Phase → Device → List Signal → Type 0
 OpenWithoutOch p d [] = Unit {0}
-OpenWithoutOch p d (s ∷ l) = (isOch d ≡ false) × (isStop s ≡ false) × OpenWithoutOch (phaseAfterSignal p s) (deviceAfter p s d) l
+OpenWithoutOch p d (s ∷ l) = (isOch d ≡ false) × (isStop s ≡ false) × OpenWithoutOch (phaseAfterSignal p s) (afterSignal p s d) l
 
 -- so a half-sent table is never shown
-pub half-sent-hidden : (p : Phase) (d : Device) (l : List Signal) → OpenWithoutOch p d l → deviceAfterAll p d l .effective ≡ d .effective
+pub half-sent-hidden : (p : Phase) (d : Device) (l : List Signal) → OpenWithoutOch p d l → afterSignals p d l .effective ≡ d .effective
 half-sent-hidden p d [] h = refl
 half-sent-hidden p d (s ∷ l) h =
-    half-sent-hidden (phaseAfterSignal p s) (deviceAfter p s d) l (h .2) ∙ before-stop-same p s d (h .0) (h .1)
+    half-sent-hidden (phaseAfterSignal p s) (afterSignal p s d) l (h .2) ∙ before-stop-same p s d (h .0) (h .1)
 
 -- ---- all of it at STOP
 
@@ -140,8 +140,8 @@ few-registers Pca9531 = omega arith
 few-registers Pca9551 = omega arith
 
 -- after a STOP an awake driver, unless that STOP resets it, has PWM0 through LEDOUT in effect as written
-pub all-shown-at-stop : (d : Device) (r : ℕ) → isDriver (d .chip) ≡ true → isAwake d ≡ true → tookReset (d .stage) ≡ false → isBuffered (d .chip) r ≡ true → inEffect (stoppedOf d) r ≡ held d r
-unfolding stoppedOf effectOfStop inEffect isBuffered committed
+pub all-shown-at-stop : (d : Device) (r : ℕ) → isDriver (d .chip) ≡ true → isAwake d ≡ true → tookReset (d .stage) ≡ false → isBuffered (d .chip) r ≡ true → inEffect (afterStop d) r ≡ held d r
+unfolding afterStop afterCommit inEffect isBuffered committed
 all-shown-at-stop d r driver awake kept buffered =
     let inside : inBuffer (outputsOf (d .chip)) r ≡ true = rw driver at buffered in
     let below : r < 28 = omega (arith, few-registers (d .chip), ltb-true r (subadr1 (outputsOf (d .chip))) (and-right (leb pwm0 r) (ltb r (subadr1 (outputsOf (d .chip)))) inside)) in

@@ -3,6 +3,6 @@ pub mod Write
 pub mod Put
 pub mod Read
 pub mod Stop
-pub mod Signal
+pub mod Signals
 pub mod Promises
 pub mod Guarantees

@@ -10,7 +10,7 @@ use Rattle.chip.specs.Promises.{moved-legal}
 use Rattle.basics.specs.laws.Logic.{tested, holds, fails}
 use Rattle.device.specs.Fields.{withStage, withControl, withEffective}
 use Rattle.device.specs.Registers.{isAwake}
-use Rattle.device.specs.Reset.{resetOf}
+use Rattle.device.specs.Reset.{afterReset}
 use Rattle.device.specs.WellFormed.{isRead, recordOk, stageFits, wellFormed}
 use Rattle.device.specs.Promises.{reset-well}
 use Rattle.device.specs.laws.WellFormed.{ok, fits, well, well-formed-ok, zero-within, WellIn}
@@ -19,19 +19,19 @@ use Rattle.device.specs.declared.Phase.{Phase}
 use Rattle.device.specs.declared.Phase.the-variants as P
 use Rattle.device.specs.declared.Stage.{Stage}
 use Rattle.device.specs.declared.Stage.the-variants.{Unselected, Control, Data, Talking, ResetCall, ResetFirst, ResetBoth}
-use Rattle.protocol.specs.Selection.{startedOf, answers, stageAfter, phaseAfter}
-use Rattle.protocol.specs.Write.{pointedAt, wakes, countAfter, storedIn, isCallByte, takenAt, takenBy}
-use Rattle.protocol.specs.Put.{heardBy}
-use Rattle.protocol.specs.Read.{isTalking, movedOn, gottenFrom, phaseAfterGet}
-use Rattle.protocol.specs.Signal.{takesPut, inTurn, phaseAfterPut, phaseAfterSignal, deviceAfter}
+use Rattle.protocol.specs.Selection.{afterStart, answers, stageAfterAddress, phaseAfterAddress}
+use Rattle.protocol.specs.Write.{afterControl, wakes, countAfterData, afterData, isCallByte, afterByteAt, afterByte}
+use Rattle.protocol.specs.Put.{afterPut}
+use Rattle.protocol.specs.Read.{isTalking, afterTalk, afterGet, phaseAfterGet}
+use Rattle.protocol.specs.Signals.{takesPut, inTurn, phaseAfterPut, phaseAfterSignal, afterSignal}
 use Rattle.protocol.specs.declared.Signal.{Signal}
 use Rattle.protocol.specs.declared.Signal.the-variants.{Start, Stop, Put, Get}
-use Rattle.protocol.specs.Stop.{committed, effectOfStop, tookReset, stoppedOf}
+use Rattle.protocol.specs.Stop.{committed, afterCommit, tookReset, afterStop}
 
 -- ---- START
 
-pub started-well : (d : Device) → recordOk d ≡ true → wellFormed P.Address (startedOf d) ≡ true
-started-well d h = well P.Address (startedOf d) (ok d h) refl
+pub started-well : (d : Device) → recordOk d ≡ true → wellFormed P.Address (afterStart d) ≡ true
+started-well d h = well P.Address (afterStart d) (ok d h) refl
 
 -- ---- a byte that is put
 
@@ -44,25 +44,25 @@ stage-fits false true driver false = refl
 stage-fits false false driver true = refl
 stage-fits false false driver false = refl
 
-pub addressed-well : (byte : ℕ) (d : Device) → recordOk d ≡ true → wellFormed (phaseAfter byte) (heardBy P.Address byte d) ≡ true
-unfolding heardBy stageAfter
+pub addressed-well : (byte : ℕ) (d : Device) → recordOk d ≡ true → wellFormed (phaseAfterAddress byte) (afterPut P.Address byte d) ≡ true
+unfolding afterPut stageAfterAddress
 addressed-well byte d h =
-    well (phaseAfter byte) (heardBy P.Address byte d) (ok d h)
+    well (phaseAfterAddress byte) (afterPut P.Address byte d) (ok d h)
     (stage-fits (eqb (byte / 2) 3) (eqb (byte % 2) 0) (isDriver (d .chip)) (answers d (byte / 2)))
 
-pointed-well : (byte : ℕ) (d : Device) → recordOk d ≡ true → WellIn P.Write (pointedAt byte d)
-unfolding pointedAt
+pointed-well : (byte : ℕ) (d : Device) → recordOk d ≡ true → WellIn P.Write (afterControl byte d)
+unfolding afterControl
 pointed-well byte d h =
     elim (tested (controlLegal (d .chip) byte)) [
       | holds e ↦ rw e (well P.Write (withControl (withStage d Data) byte) (record { legal = e; allowed = ok d h .allowed; within = ok d h .within }) refl)
       | fails e ↦ rw e (well P.Write (withStage d Unselected) (ok d h) refl)
     ]
 
-stored-well : (byte : ℕ) (d : Device) → WellIn P.Write d → WellIn P.Write (storedIn byte d)
-unfolding storedIn countAfter
+stored-well : (byte : ℕ) (d : Device) → WellIn P.Write d → WellIn P.Write (afterData byte d)
+unfolding afterData countAfterData
 stored-well byte d h =
     let o = ok d (well-formed-ok P.Write d h) in
-    well P.Write (storedIn byte d) (
+    well P.Write (afterData byte d) (
     record {
       legal = moved-legal (d .chip) (d .control) (o .legal);
       allowed = o .allowed;
@@ -77,7 +77,7 @@ call-well due byte d s h f =
       | fails e ↦ rw e (well P.Write (withStage d Unselected) (ok d h) refl)
     ]
 
-taken-well : (byte : ℕ) (d : Device) (s : Stage) → WellIn P.Write d → WellIn P.Write (takenAt s byte d)
+taken-well : (byte : ℕ) (d : Device) (s : Stage) → WellIn P.Write d → WellIn P.Write (afterByteAt s byte d)
 taken-well byte d Unselected h = h
 taken-well byte d Control h = pointed-well byte d (well-formed-ok P.Write d h)
 taken-well byte d Data h = stored-well byte d h
@@ -86,14 +86,14 @@ taken-well byte d ResetCall h = call-well 165 byte d ResetFirst (well-formed-ok 
 taken-well byte d ResetFirst h = call-well 90 byte d ResetBoth (well-formed-ok P.Write d h) refl
 taken-well byte d ResetBoth h = well P.Write (withStage d Unselected) (ok d (well-formed-ok P.Write d h)) refl
 
-pub written-well : (byte : ℕ) (d : Device) → wellFormed P.Write d ≡ true → wellFormed P.Write (heardBy P.Write byte d) ≡ true
-unfolding heardBy takenBy
+pub written-well : (byte : ℕ) (d : Device) → wellFormed P.Write d ≡ true → wellFormed P.Write (afterPut P.Write byte d) ≡ true
+unfolding afterPut afterByte
 written-well byte d h = taken-well byte d (d .stage) h
 
 -- ---- a get
 
-moved-well : (d : Device) → WellIn P.Read d → WellIn P.Read (movedOn d)
-unfolding movedOn
+moved-well : (d : Device) → WellIn P.Read d → WellIn P.Read (afterTalk d)
+unfolding afterTalk
 moved-well d h =
     let o = ok d (well-formed-ok P.Read d h) in
     elim (tested (isTalking (d .stage))) [
@@ -101,44 +101,44 @@ moved-well d h =
       | fails e ↦ rw e h
     ]
 
-pub gotten-well : (ack : Bool) (d : Device) → wellFormed P.Read d ≡ true → wellFormed (phaseAfterGet ack) (gottenFrom ack d) ≡ true
-unfolding gottenFrom
+pub gotten-well : (ack : Bool) (d : Device) → wellFormed P.Read d ≡ true → wellFormed (phaseAfterGet ack) (afterGet ack d) ≡ true
+unfolding afterGet
 gotten-well true d h = moved-well d h
-gotten-well false d h = well P.Ended (withStage (movedOn d) Unselected) (ok (movedOn d) (well-formed-ok P.Read (movedOn d) (moved-well d h))) refl
+gotten-well false d h = well P.Ended (withStage (afterTalk d) Unselected) (ok (afterTalk d) (well-formed-ok P.Read (afterTalk d) (moved-well d h))) refl
 
 -- ---- STOP
 
-effect-ok : (d : Device) → recordOk d ≡ true → recordOk (effectOfStop d) ≡ true
-unfolding effectOfStop recordOk
+effect-ok : (d : Device) → recordOk d ≡ true → recordOk (afterCommit d) ≡ true
+unfolding afterCommit recordOk
 effect-ok d h =
     elim (tested (isDriver (d .chip) && isAwake d)) [ holds e ↦ rw e h | fails e ↦ rw e h ]
 
-pub stopped-well : (d : Device) → recordOk d ≡ true → wellFormed P.Idle (stoppedOf d) ≡ true
-unfolding stoppedOf
+pub stopped-well : (d : Device) → recordOk d ≡ true → wellFormed P.Idle (afterStop d) ≡ true
+unfolding afterStop
 stopped-well d h =
     elim (tested (isDriver (d .chip) && tookReset (d .stage))) [
       | holds e ↦ rw e (reset-well P.Idle d h)
-      | fails e ↦ rw e (well P.Idle (withStage (effectOfStop d) Unselected) (ok (effectOfStop d) (effect-ok d h)) refl)
+      | fails e ↦ rw e (well P.Idle (withStage (afterCommit d) Unselected) (ok (afterCommit d) (effect-ok d h)) refl)
     ]
 
 -- ---- any signal that is in turn
 
-put-well : (p : Phase) (byte : ℕ) (d : Device) → takesPut p ≡ true → WellIn p d → WellIn (phaseAfterPut p byte) (heardBy p byte d)
+put-well : (p : Phase) (byte : ℕ) (d : Device) → takesPut p ≡ true → WellIn p d → WellIn (phaseAfterPut p byte) (afterPut p byte d)
 put-well P.Address byte d t h = addressed-well byte d (well-formed-ok P.Address d h)
 put-well P.Write byte d t h = written-well byte d h
 put-well P.Idle byte d t h = absurd (false≢true t)
 put-well P.Read byte d t h = absurd (false≢true t)
 put-well P.Ended byte d t h = absurd (false≢true t)
 
-get-well : (p : Phase) (ack : Bool) (d : Device) → isRead p ≡ true → WellIn p d → WellIn (phaseAfterGet ack) (gottenFrom ack d)
+get-well : (p : Phase) (ack : Bool) (d : Device) → isRead p ≡ true → WellIn p d → WellIn (phaseAfterGet ack) (afterGet ack d)
 get-well P.Read ack d t h = gotten-well ack d h
 get-well P.Idle ack d t h = absurd (false≢true t)
 get-well P.Address ack d t h = absurd (false≢true t)
 get-well P.Write ack d t h = absurd (false≢true t)
 get-well P.Ended ack d t h = absurd (false≢true t)
 
-pub signal-well : (p : Phase) (s : Signal) (d : Device) → inTurn p s ≡ true → wellFormed p d ≡ true → wellFormed (phaseAfterSignal p s) (deviceAfter p s d) ≡ true
-unfolding phaseAfterSignal deviceAfter
+pub signal-well : (p : Phase) (s : Signal) (d : Device) → inTurn p s ≡ true → wellFormed p d ≡ true → wellFormed (phaseAfterSignal p s) (afterSignal p s d) ≡ true
+unfolding phaseAfterSignal afterSignal
 signal-well p Start d t h = started-well d (well-formed-ok p d h)
 signal-well p Stop d t h = stopped-well d (well-formed-ok p d h)
 signal-well p (Put byte) d t h = put-well p byte d t h

@@ -11,14 +11,14 @@ use borrow.Author.Tests.{le-ltb, le-leb, ltb-false, eqb-true}
 use lib.Seq.{getD-set-same, take-append-seam, length-take-le}
 use Rattle.chip.specs.declared.Chip.the-variants.{Pca9635}
 use Rattle.device.specs.Reset.{fresh}
-use Rattle.device.specs.Wait.{waitedOf}
+use Rattle.device.specs.Wait.{afterWait}
 use Rattle.device.specs.WellFormed.{wellFormed}
 use Rattle.device.specs.laws.WellFormed.{well-formed-ok}
 use Rattle.device.specs.declared.Device.{Device}
 use Rattle.device.specs.declared.Phase.{Phase}
 use Rattle.protocol.specs.Put.{acksTo}
 use Rattle.protocol.specs.Read.{talkOf}
-use Rattle.protocol.specs.Signal.{inTurn, phaseAfterSignal, deviceAfter}
+use Rattle.protocol.specs.Signals.{inTurn, phaseAfterSignal, afterSignal}
 use Rattle.protocol.specs.declared.Signal.the-variants as S
 use Rattle.basics.specs.laws.First.{map-firsts}
 use Rattle.basics.specs.Bits.{mask, maskFirst}
@@ -68,10 +68,10 @@ tooLarge (Pin dev out) = false
 
 -- a record after the event
 abbrev pub recordAfter : Phase → Event → Device → Device
-recordAfter p Start d = deviceAfter p S.Start d
-recordAfter p Stop d = deviceAfter p S.Stop d
-recordAfter p (Put byte) d = deviceAfter p (S.Put byte) d
-recordAfter p (Get ack) d = deviceAfter p (S.Get (eqb ack 1)) d
+recordAfter p Start d = afterSignal p S.Start d
+recordAfter p Stop d = afterSignal p S.Stop d
+recordAfter p (Put byte) d = afterSignal p (S.Put byte) d
+recordAfter p (Get ack) d = afterSignal p (S.Get (eqb ack 1)) d
 recordAfter p (Add chip addr) d = d
 recordAfter p (Wait dev ticks) d = d
 recordAfter p (Oe dev level) d = d
@@ -303,6 +303,6 @@ wait-as-bus b dev ticks h there l = rw same (go (eqb k 0) refl)
     go : (t : Bool) → eqb k 0 ≡ t
         → (cond t (waitDone b dev ticks) (refusedWith b k) .code ≡ k)
         × ((cond t (waitDone b dev ticks) (refusedWith b k) .value ≡ 0)
-        × (deviceAt (cond t (waitDone b dev ticks) (refusedWith b k) .bus) dev ≡ cond t (waitedOf d ticks) d))
-    go true e = (sym (eqb-true k 0 e), (refl, getD-set-same (b .devices) dev (waitedOf d ticks) (fresh Pca9635 0) l))
+        × (deviceAt (cond t (waitDone b dev ticks) (refusedWith b k) .bus) dev ≡ cond t (afterWait d ticks) d))
+    go true e = (sym (eqb-true k 0 e), (refl, getD-set-same (b .devices) dev (afterWait d ticks) (fresh Pca9635 0) l))
     go false e = (refl, (refl, refl))

@@ -4,7 +4,7 @@ use mathlib.Core.Bool.{not, cond}
 use mathlib.Core.List.{List, [], _∷_}
 use lib.Dec.{eqb}
 use Rattle.device.specs.WellFormed.{recordOk}
-use Rattle.device.specs.Wait.{overruns, waitedOf}
+use Rattle.device.specs.Wait.{overruns, afterWait}
 use Rattle.device.specs.declared.Device.{Device}
 use Rattle.bus.specs.Refusals.{Refusal, refuse, codeOf}
 use Rattle.row.specs.declared.Answer.{Answer}
@@ -20,7 +20,7 @@ waitAnswer d ticks = record { code = codeOf (recordRefusals d ticks); value = 0 
 
 -- refused, the record stays
 unfoldable pub waitRecord : Device → ℕ → Device
-waitRecord d ticks = cond (eqb (codeOf (recordRefusals d ticks)) 0) (waitedOf d ticks) d
+waitRecord d ticks = cond (eqb (codeOf (recordRefusals d ticks)) 0) (afterWait d ticks) d
 
 abbrev pub waitedRecord : Device → ℕ → Waited
 waitedRecord d ticks = record { device = waitRecord d ticks; answer = waitAnswer d ticks }

@@ -25,7 +25,7 @@ fn wait_code(device: Device, ticks: u64) -> u64
     ensures { λ r. ⌜ r ≡ codeOf (recordRefusals device ticks) ⌝ }
 {
     let chip = device.chip;
-    if device::record::is_ok(device) {
+    if device::well_formed::is_ok(device) {
         if device::wait::overruns(device, device::wait::own_duration(chip, ticks)) {
             6
         } else {
@@ -48,7 +48,7 @@ pub fn waited_record(device: Device, ticks: u64) -> Waited
         value: 0,
     };
     if code == 0 {
-        let next = device::wait::waited(device, duration);
+        let next = device::wait::after_wait(device, duration);
         Waited {
             device: next,
             answer: answer,

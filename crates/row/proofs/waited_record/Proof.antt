@@ -2,7 +2,7 @@
 use mathlib.Core.Path.{sym, ap, _∙_}
 use borrow.Author.Tests.{eq-eqb, ne-eqb}
 use borrow.Author.Needs.{needs}
-use Rattle.device.specs.Wait.{waitedFor}
+use Rattle.device.specs.Wait.{afterWaitFor}
 use Rattle.device.specs.laws.Wait.{bare-waited}
 use Rattle.row.specs.Wait.{waitRecord, waitAnswer}
 use Rattle.row.proofs.waited_record.Statement.{statement}
@@ -14,7 +14,7 @@ returns c =
     let k = c .before .before in
     let u = k .before in
     let a = u .before .args in
-    let e = c .waited .ensures ∙ ap (waitedFor (a .device)) (u .own-duration .ensures) ∙ bare-waited (a .device) (a .ticks) in
+    let e = c .after-wait .ensures ∙ ap (afterWaitFor (a .device)) (u .own-duration .ensures) ∙ bare-waited (a .device) (a .ticks) in
     simp (e, k .wait-code .ensures, eq-eqb _ _ (sym (k .wait-code .ensures) ∙ c .before .if1 .taken))
 
 returns-2 : tie.Need-returns-2

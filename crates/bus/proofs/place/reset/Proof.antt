@@ -6,7 +6,7 @@ use Rattle.bus.proofs.place.reset.Tie as tie
 
 returns : tie.Need-returns
 unfolding resetReply
-returns c = answered _ _ _ _ _ (c .before .before .before .before .before .place-code .ensures) (c .before .before .before .before .if1 .taken) (simp (c .done .ensures, c .before .with-device .ensures, c .before .before .reset .ensures, c .before .before .before .device-at .ensures))
+returns c = answered _ _ _ _ _ (c .before .before .before .before .before .place-code .ensures) (c .before .before .before .before .if1 .taken) (simp (c .done .ensures, c .before .with-device .ensures, c .before .before .after-reset .ensures, c .before .before .before .device-at .ensures))
 
 returns-2 : tie.Need-returns-2
 unfolding resetReply

@@ -7,7 +7,7 @@ use Rattle.bus.proofs.time.wait_for.Tie as tie
 
 returns : tie.Need-returns
 unfolding waitForReply
-returns c = answered _ _ _ _ _ (c .before .before .before .before .before .wait-code .ensures) (c .before .before .before .before .if1 .taken) (simp (c .done .ensures, c .before .with-device .ensures, c .before .before .waited .ensures, c .before .before .before .device-at .ensures))
+returns c = answered _ _ _ _ _ (c .before .before .before .before .before .wait-code .ensures) (c .before .before .before .before .if1 .taken) (simp (c .done .ensures, c .before .with-device .ensures, c .before .before .after-wait .ensures, c .before .before .before .device-at .ensures))
 
 returns-2 : tie.Need-returns-2
 unfolding waitForReply

@@ -25,7 +25,7 @@ loop-holds : tie.Need-loop-holds Inv-loop μ-loop
 loop-holds c = (search needs, search needs, mask-none _ _)
 
 input-weight-requires : tie.Need-input-weight-requires Inv-loop μ-loop
-input-weight-requires c κs = c .before .loop .inv .1
+input-weight-requires c κs = c .loop-test .taken
 
 add-byte : tie.Need-add-byte Inv-loop μ-loop
 add-byte c =
