@@ -3,11 +3,11 @@ use mathlib.Core.Path.{_≡_, refl}
 use mathlib.Core.Bool.{Bool, true, not, _&&_, _||_}
 use Prim.Native.Nat.{ℕ, _<_}
 use lib.Dec.{leb}
+use Rattle.basics.specs.laws.Table.{allBelow, agree, follow}
 use Rattle.chip.specs.Kinds.{numberOf, chipNumbered}
 use Rattle.chip.specs.Registers.{registerMap}
 use Rattle.chip.specs.Control.{controlLegal, controlMoved}
 use Rattle.chip.specs.Values.{resetControl}
-use Rattle.basics.specs.laws.Table.{allBelow, agree, follow}
 use Rattle.chip.specs.laws.Control.{driver-byte, blinker-byte}
 use Rattle.chip.specs.declared.Chip.{Chip}
 use Rattle.chip.specs.declared.Chip.the-variants.{Pca9635, Pca9634, Pca9531, Pca9551}

@@ -1,19 +1,18 @@
 -- A fresh device is well formed, and reset, OE, the outside levels and a wait keep a well-formed record well formed. What happens on the bus does too (crate `protocol`).
 use mathlib.Core.Path.{_≡_, refl}
 use mathlib.Core.Bool.{Bool, true}
-use Prim.Native.Nat.{ℕ, _+_}
-use lib.Dec.{leb}
-use Rattle.lamp.specs.Window.{countLimit}
+use Prim.Native.Nat.{ℕ}
+use Rattle.basics.specs.laws.Logic.{tested, holds, fails}
 use Rattle.chip.specs.Addresses.{addressAllowed}
 use Rattle.chip.specs.Promises.{reset-legal}
-use Rattle.basics.specs.laws.Logic.{tested, holds, fails}
 use Rattle.chip.specs.declared.Chip.{Chip}
 use Rattle.device.specs.Fields.{withCount, withOe, withLevels}
 use Rattle.device.specs.Registers.{isAwake}
 use Rattle.device.specs.Reset.{fresh, afterReset}
 use Rattle.device.specs.Wait.{advanced, afterWait}
 use Rattle.device.specs.WellFormed.{recordOk, wellFormed}
-use Rattle.device.specs.laws.WellFormed.{ok, fits, well, well-formed-ok, zero-within, WellIn}
+use Rattle.device.specs.laws.Wait.{advanced-within}
+use Rattle.device.specs.laws.WellFormed.{ok, fits, well, well-formed-ok, zero-within}
 use Rattle.device.specs.declared.Device.{Device}
 use Rattle.device.specs.declared.Phase.{Phase}
 
@@ -30,11 +29,6 @@ oe-well p oe d h = well p (withOe d oe) (ok d (well-formed-ok p d h)) (fits p d 
 
 pub levels-well : (p : Phase) (levels : ℕ) (d : Device) → wellFormed p d ≡ true → wellFormed p (withLevels d levels) ≡ true
 levels-well p levels d h = well p (withLevels d levels) (ok d (well-formed-ok p d h)) (fits p d h)
-
-advanced-within : (t w : ℕ) → leb t countLimit ≡ true → leb (advanced t w) countLimit ≡ true
-unfolding advanced
-advanced-within t w h =
-    elim (tested (leb (t + w) countLimit)) [ holds e ↦ rw (e, e) | fails e ↦ rw e h ]
 
 pub waited-well : (p : Phase) (w : ℕ) (d : Device) → wellFormed p d ≡ true → wellFormed p (afterWait d w) ≡ true
 unfolding afterWait

@@ -8,7 +8,6 @@ use lamp::DriverMode;
 use lamp::DriverTicks;
 ghost use mathlib.Core.Path.{_≡_};
 ghost use mathlib.Core.Bool.{cond};
-ghost use Prim.Native.Nat.{_<_};
 ghost use Rattle.lamp.specs.declared.Duration.the-variants.{Ticks, Steps};
 ghost use Rattle.chip.specs.Kinds.{outputsOf};
 ghost use Rattle.device.specs.Output.{pairOf, driverOutput, blinkerMode, blinkOf, blinkerOutput, litNow, litFor, undriven, disabledPin, driverPin, pinOf, inputBit, inputByte};
@@ -192,7 +191,6 @@ pub fn pin(d: Device, out: u8) -> u64
 }
 
 fn input_weight(d: Device, i: u8, weight: u16) -> u16
-    requires { ⌜ i < 8 ⌝ }
     ensures { λ r. ⌜ r ≡ cond (inputBit d i) weight 0 ⌝ }
 {
     if is_lit(d, i) {

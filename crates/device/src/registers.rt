@@ -1,16 +1,15 @@
 // A device's registers, as written and as in effect, and the bits of MODE1 and MODE2.
 use crate::Device;
 ghost use mathlib.Core.Path.{_≡_};
-ghost use Prim.Native.Nat.{_%_, _<_};
+ghost use Prim.Native.Nat.{_%_};
 ghost use lib.ListN.{getD, set};
 ghost use Rattle.device.specs.Registers.{bit, inEffect, isAwake};
 
-// Bit k of a byte.
+// Bit k of a byte is set.
 pub fn bit(k: u8, byte: u8) -> bool
-    requires { ⌜ k < 8 ⌝ }
     ensures { λ r. ⌜ r ≡ bit k byte ⌝ }
 {
-    (byte >> k) % 2 == 1
+    if k < 8 { (byte >> k) % 2 == 1 } else { false }
 }
 
 pub fn at(registers: [u8; 28], register: usize) -> u8
@@ -66,14 +65,14 @@ pub fn is_awake(d: Device) -> bool
 }
 
 // DMBLNK: group blinking, not dimming.
-pub fn is_blinking(mode2: u8) -> bool
+pub(crate) fn is_blinking(mode2: u8) -> bool
     ensures { λ r. ⌜ r ≡ bit 5 mode2 ⌝ }
 {
     bit(5, mode2)
 }
 
 // INVRT.
-pub fn is_inverted(mode2: u8) -> bool
+pub(crate) fn is_inverted(mode2: u8) -> bool
     ensures { λ r. ⌜ r ≡ bit 4 mode2 ⌝ }
 {
     bit(4, mode2)
@@ -87,13 +86,13 @@ pub fn is_och(mode2: u8) -> bool
 }
 
 // OUTDRV: totem pole, not open drain.
-pub fn is_totem_pole(mode2: u8) -> bool
+pub(crate) fn is_totem_pole(mode2: u8) -> bool
     ensures { λ r. ⌜ r ≡ bit 2 mode2 ⌝ }
 {
     bit(2, mode2)
 }
 
-pub fn outne(mode2: u8) -> u8
+pub(crate) fn outne(mode2: u8) -> u8
     ensures { λ r. ⌜ r ≡ mode2 % 4 ⌝ }
 {
     mode2 % 4

@@ -4,5 +4,6 @@ pub mod Put
 pub mod Read
 pub mod Stop
 pub mod Signals
+pub mod laws
 pub mod Promises
 pub mod Guarantees

@@ -4,7 +4,6 @@ use device::Phase;
 use device::Stage;
 ghost use mathlib.Core.Path.{_≡_};
 ghost use mathlib.Core.Bool.{_||_};
-ghost use Prim.Native.Nat.{_<_};
 ghost use Rattle.chip.specs.Kinds.{outputsOf};
 ghost use Rattle.protocol.specs.Selection.{afterStart, ownAddress, sharedBy, answersShared, answers, callStage, stageAfterAddress, phaseAfterAddress};
 
@@ -27,7 +26,6 @@ fn own_address(d: Device) -> u16
 
 // Bit k of MODE1 lets the driver answer the address in bits 7..1 of the register.
 fn shared_by(d: Device, k: u8, register: usize, address: u8) -> bool
-    requires { ⌜ k < 8 ⌝ }
     ensures { λ r. ⌜ r ≡ sharedBy d k register address ⌝ }
 {
     if device::registers::bit(k, d.written[chip::MODE1 as usize]) {

@@ -1,12 +1,12 @@
 -- Laws of time: a count after a wait, and a bare number in the device's own unit.
-use mathlib.Core.Path.{_≡_, refl, sym, _∙_}
+use mathlib.Core.Path.{_≡_, sym, _∙_}
 use mathlib.Core.Bool.{Bool, true, false}
 use Prim.Native.Nat.{ℕ, _+_}
 use lib.Dec.{leb}
+use Rattle.basics.specs.laws.Logic.{tested, holds, fails}
 use Rattle.lamp.specs.Window.{countLimit}
 use Rattle.lamp.specs.Duration.{amount}
 use Rattle.chip.specs.Kinds.{isDriver}
-use Rattle.basics.specs.laws.Logic.{tested, holds, fails}
 use Rattle.chip.specs.declared.Chip.{Chip}
 use Rattle.device.specs.Wait.{overruns, advanced, afterWait, isOwn, ownDuration, overrunsFor, afterWaitFor}
 use Rattle.device.specs.declared.Device.{Device}
@@ -20,6 +20,12 @@ module _ (t w : ℕ) (b : Bool) (e : b ≡ leb (t + w) countLimit) where
   pub beyond-stays : b ≡ false → t ≡ advanced t w
   unfolding advanced
   beyond-stays h = rw (sym e ∙ h)
+
+-- a count within the limit stays within it
+pub advanced-within : (t w : ℕ) → leb t countLimit ≡ true → leb (advanced t w) countLimit ≡ true
+unfolding advanced
+advanced-within t w h =
+    elim (tested (leb (t + w) countLimit)) [ holds e ↦ rw (e, e) | fails e ↦ rw e h ]
 
 -- a bare number in a chip's own unit is in its own unit, and is that number
 pub own-is-own : (chip : Chip) (n : ℕ) → isOwn chip (ownDuration chip n) ≡ true

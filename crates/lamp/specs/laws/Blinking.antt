@@ -1,7 +1,7 @@
 -- Group blinking, whose period P is in general no multiple of 256: its lit ticks are counted by blink periods, and start again after 256 of them.
 use mathlib.Core.Path.{_≡_, refl, sym}
 use Prim.Native.Nat.{ℕ, zero, suc, min, _+_, _*_, _/_, _%_, _≤_, _<_}
-use native.Mathlib.Nat.{le-of-lt, zero-min, min-eq-right, mul-le-mul-right, mod-lt, div-add-mod', mod-mod-of-dvd, dvd-mul-right, dvd-mul-left}
+use native.Mathlib.Nat.{le-of-lt, zero-min, min-eq-right, mod-lt, div-add-mod', mod-mod-of-dvd, dvd-mul-right, dvd-mul-left}
 use native.Mathlib.Omega.{arith}
 use lib.Arith.{digits-mod}
 use Rattle.lamp.specs.Window.{litTicks}

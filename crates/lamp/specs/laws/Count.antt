@@ -9,8 +9,8 @@ use native.Mathlib.Omega.{arith}
 use lib.Dec.{ltb, leb, lit<}
 use lib.Arith.{digits-lt, mod-mul}
 use borrow.Author.Tests.{lt-ltb, le-ltb, le-leb, lt-leb, leb-true, ltb-true, ltb-false}
-use Rattle.basics.specs.laws.Logic.{tested, holds, fails}
 use Rattle.basics.specs.laws.Division.{div-mod-of}
+use Rattle.basics.specs.laws.Logic.{tested, holds, fails}
 use Rattle.lamp.specs.Window.{oneIf, litTicks, countLimit, countedTicks}
 use Rattle.lamp.specs.Driver.{individual, grouped, dimmed}
 use Rattle.lamp.specs.Blinker.{stepCount, litBelow, litFrom}

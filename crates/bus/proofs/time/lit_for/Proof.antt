@@ -4,7 +4,7 @@ use Rattle.bus.specs.laws.Refusals.{accepted}
 use native.Mathlib.Omega.{arith}
 use borrow.Author.Tests.{leb-false}
 use Rattle.chip.specs.Kinds.{outputsOf}
-use Rattle.chip.proofs.Laws.{outputs-few}
+use Rattle.chip.specs.laws.Registers.{outputs-few}
 use Rattle.bus.specs.Bus.{deviceAt}
 use Rattle.bus.specs.Units.{litForRefusals, litForReply}
 use Rattle.bus.specs.laws.Replies.{answered, turned-away}

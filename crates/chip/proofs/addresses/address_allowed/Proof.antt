@@ -1,3 +1,4 @@
+-- `chip::addresses::address_allowed` meets its contract, by kind.
 use mathlib.Core.Path.{sym, _∙_}
 use borrow.Author.Tests.{eq-eqb, ne-eqb}
 use Rattle.chip.specs.Addresses.{addressAllowed}

@@ -1,3 +1,4 @@
+-- `chip::kinds::chip_numbered` meets its contract: each number is another.
 use borrow.Author.Tests.{ne-eqb}
 use Rattle.chip.proofs.kinds.chip_numbered.Statement.{statement}
 use Rattle.chip.proofs.kinds.chip_numbered.Tie as tie

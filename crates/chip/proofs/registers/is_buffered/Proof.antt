@@ -1,3 +1,4 @@
+-- `chip::registers::is_buffered` meets its contract: PWM0 through LEDOUT of a driver.
 use mathlib.Core.Path.{sym, _∙_}
 use borrow.Author.Tests.{le-leb, lt-leb}
 use Rattle.chip.specs.Registers.{isBuffered}

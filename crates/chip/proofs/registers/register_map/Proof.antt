@@ -1,5 +1,6 @@
+-- `chip::registers::register_map` meets its contract: with at most 16 outputs no sum wraps.
 use native.Mathlib.Omega.{arith}
-use Rattle.chip.proofs.Laws.{outputs-few}
+use Rattle.chip.specs.laws.Registers.{outputs-few}
 use borrow.Author.Needs.{needs}
 use Rattle.chip.proofs.registers.register_map.Statement.{statement}
 use Rattle.chip.proofs.registers.register_map.Tie as tie

@@ -11,7 +11,7 @@ use Rattle.chip.specs.Registers.{grppwm, subadr1, allcalladr}
 use Rattle.chip.specs.Values.{resetRegisters}
 use Rattle.chip.specs.declared.Chip.{Chip}
 use Rattle.chip.specs.declared.Chip.the-variants.{Pca9635, Pca9634, Pca9531, Pca9551}
-use Rattle.chip.proofs.Laws.{outputs-few}
+use Rattle.chip.specs.laws.Registers.{outputs-few}
 use Rattle.chip.proofs.values.driver_resets.Statement.{statement}
 use Rattle.chip.proofs.values.driver_resets.Tie as tie
 

@@ -1,3 +1,4 @@
+-- `chip::values::reset_registers` meets its contract, chip by chip.
 use Rattle.chip.specs.Values.{resetRegisters}
 use borrow.Author.Needs.{needs}
 use Rattle.chip.proofs.values.reset_registers.Statement.{statement}

@@ -1,3 +1,4 @@
+-- `device::reset::after_reset` meets its contract.
 use Rattle.device.specs.Reset.{afterReset}
 use borrow.Author.Needs.{needs}
 use Rattle.device.proofs.reset.after_reset.Statement.{statement}

@@ -1,3 +1,4 @@
+-- `device::reset::fresh` meets its contract.
 use borrow.Author.Needs.{needs}
 use Rattle.device.proofs.reset.fresh.Statement.{statement}
 use Rattle.device.proofs.reset.fresh.Tie as tie

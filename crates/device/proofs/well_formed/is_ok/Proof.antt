@@ -1,3 +1,4 @@
+-- `device::well_formed::is_ok` meets its contract: its three tests in turn.
 use mathlib.Core.Path.{sym, _∙_}
 use Rattle.device.specs.WellFormed.{recordOk}
 use borrow.Author.Needs.{needs}

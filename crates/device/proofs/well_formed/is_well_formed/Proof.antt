@@ -1,3 +1,4 @@
+-- `device::well_formed::is_well_formed` meets its contract: a legal record whose stage fits the phase.
 use mathlib.Core.Path.{sym, _∙_}
 use Rattle.device.specs.WellFormed.{wellFormed}
 use borrow.Author.Needs.{needs}

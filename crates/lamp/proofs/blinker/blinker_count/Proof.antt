@@ -23,7 +23,9 @@ returns-3 c = rw (c .before .before .mode .given .1) (c .lit-below .ensures)
 
 returns-4 : tie.Need-returns-4
 unfolding blinkerLit
-returns-4 c = rw (c .before .before .mode2 .given .1, c .lit-below2 .ensures) (from-zero (from-counts (c .before .before .mode2 .given .0 .0) (c .before .before .mode2 .given .0 .1 .0)) (c .before .before .before .before .args .x))
+returns-4 c =
+    let t = c .before .before in
+    rw (t .mode2 .given .1, c .lit-below2 .ensures) (from-zero (from-counts (t .mode2 .given .0 .0) (t .mode2 .given .0 .1 .0)) (t .before .before .args .x))
 
 pub blinker-count-spec : {M : Type 1} → statement M
 blinker-count-spec =

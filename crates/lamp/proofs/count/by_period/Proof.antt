@@ -3,11 +3,11 @@ use mathlib.Core.Path.{_≡_}
 use Prim.Native.Nat.{_+_, _-_, _*_, _/_, _≤_}
 use native.Mathlib.Nat.{zero-mul, div-le-self, div-add-mod'}
 use native.Mathlib.Omega.{arith}
+use Rattle.basics.specs.laws.Division.{mul-le-of-lt-div}
 use Rattle.lamp.specs.Window.{litTicks}
 use Rattle.lamp.specs.Driver.{grouped}
 use Rattle.lamp.specs.laws.Count.{within, prefix}
 use Rattle.lamp.specs.laws.Blinking.{next-period, last-period}
-use Rattle.basics.specs.laws.Division.{mul-le-of-lt-div}
 use borrow.Author.Needs.{needs}
 use Rattle.lamp.proofs.count.by_period.Statement.{statement}
 use Rattle.lamp.proofs.count.by_period.Tie as tie

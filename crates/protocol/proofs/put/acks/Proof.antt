@@ -1,3 +1,4 @@
+-- `protocol::put::acks` meets its contract, phase by phase.
 use Rattle.protocol.specs.Put.{acksTo}
 use borrow.Author.Needs.{needs}
 use Rattle.protocol.proofs.put.acks.Statement.{statement}

@@ -1,3 +1,4 @@
+-- `protocol::put::after_put` meets its contract, phase by phase.
 use Rattle.protocol.specs.Put.{afterPut}
 use borrow.Author.Needs.{needs}
 use Rattle.protocol.proofs.put.after_put.Statement.{statement}

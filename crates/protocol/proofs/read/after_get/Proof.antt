@@ -1,3 +1,4 @@
+-- `protocol::read::after_get` meets its contract, by the acknowledge.
 use Rattle.protocol.specs.Read.{afterGet}
 use borrow.Author.Needs.{needs}
 use Rattle.protocol.proofs.read.after_get.Statement.{statement}

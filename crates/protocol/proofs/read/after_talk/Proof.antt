@@ -1,3 +1,4 @@
+-- `protocol::read::after_talk` meets its contract: only a device that talks moves its pointer.
 use mathlib.Core.Path.{sym, _∙_}
 use Rattle.protocol.specs.Read.{afterTalk}
 use borrow.Author.Needs.{needs}

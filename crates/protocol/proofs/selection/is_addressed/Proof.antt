@@ -1,3 +1,4 @@
+-- `protocol::selection::is_addressed` meets its contract: by its own address, or by a shared one.
 use mathlib.Core.Path.{sym, _∙_}
 use borrow.Author.Tests.{eq-eqb, ne-eqb}
 use Rattle.protocol.specs.Selection.{answers}

@@ -1,3 +1,4 @@
+-- `protocol::selection::own_address` meets its contract, by kind.
 use mathlib.Core.Path.{sym, _∙_}
 use Rattle.protocol.specs.Selection.{ownAddress}
 use borrow.Author.Needs.{needs}

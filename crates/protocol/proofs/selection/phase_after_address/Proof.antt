@@ -1,3 +1,4 @@
+-- `protocol::selection::phase_after_address` meets its contract, by bit 0.
 use borrow.Author.Tests.{eq-eqb, ne-eqb}
 use Rattle.protocol.proofs.selection.phase_after_address.Statement.{statement}
 use Rattle.protocol.proofs.selection.phase_after_address.Tie as tie

@@ -1,3 +1,4 @@
+-- `protocol::selection::reset_call` meets its contract: a write, and to a driver.
 use mathlib.Core.Path.{sym, _∙_}
 use borrow.Author.Tests.{eq-eqb, ne-eqb}
 use borrow.Author.Needs.{needs}

@@ -1,3 +1,4 @@
+-- `protocol::selection::stage_after_address` meets its contract: the software reset call is judged first.
 use mathlib.Core.Path.{sym, _∙_}
 use borrow.Author.Tests.{eq-eqb, ne-eqb}
 use Rattle.protocol.specs.Selection.{stageAfterAddress}

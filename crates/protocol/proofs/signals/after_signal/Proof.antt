@@ -1,3 +1,4 @@
+-- `protocol::signals::after_signal` meets its contract, signal by signal.
 use Rattle.protocol.specs.Signals.{afterSignal}
 use borrow.Author.Needs.{needs}
 use Rattle.protocol.proofs.signals.after_signal.Statement.{statement}

@@ -1,3 +1,4 @@
+-- `protocol::signals::phase_after_put` meets its contract, phase by phase.
 use borrow.Author.Needs.{needs}
 use Rattle.protocol.proofs.signals.phase_after_put.Statement.{statement}
 use Rattle.protocol.proofs.signals.phase_after_put.Tie as tie

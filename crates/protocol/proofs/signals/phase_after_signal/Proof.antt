@@ -1,3 +1,4 @@
+-- `protocol::signals::phase_after_signal` meets its contract, signal by signal.
 use Rattle.protocol.specs.Signals.{phaseAfterSignal}
 use borrow.Author.Needs.{needs}
 use Rattle.protocol.proofs.signals.phase_after_signal.Statement.{statement}

@@ -1,3 +1,4 @@
+-- `protocol::stop::after_commit` meets its contract: only an awake driver commits.
 use mathlib.Core.Path.{sym, _∙_}
 use Rattle.protocol.specs.Stop.{afterCommit}
 use borrow.Author.Needs.{needs}

@@ -1,3 +1,4 @@
+-- `protocol::stop::after_stop` meets its contract: a driver that took the software reset call is reset, any other device commits.
 use mathlib.Core.Path.{sym, _∙_}
 use Rattle.protocol.specs.Stop.{afterStop}
 use borrow.Author.Needs.{needs}
@@ -10,7 +11,9 @@ returns c = simp (c .after-reset .ensures, sym (c .before .before .took-reset .e
 
 returns-2 : tie.Need-returns-2
 unfolding afterStop
-returns-2 c = simp (c .with-stage .ensures, c .before .after-commit .ensures, sym (c .before .before .before .took-reset .ensures) ∙ c .before .before .if2 .left, sym (c .before .before .before .before .before .is-driver .ensures) ∙ c .before .before .before .before .if1 .taken)
+returns-2 c =
+    let t = c .before .before in
+    simp (c .with-stage .ensures, c .before .after-commit .ensures, sym (t .before .took-reset .ensures) ∙ t .if2 .left, sym (t .before .before .before .is-driver .ensures) ∙ t .before .before .if1 .taken)
 
 returns-3 : tie.Need-returns-3
 unfolding afterStop

@@ -1,3 +1,4 @@
+-- `protocol::write::after_byte` meets its contract, stage by stage.
 use Rattle.protocol.specs.Write.{afterByte}
 use borrow.Author.Needs.{needs}
 use Rattle.protocol.proofs.write.after_byte.Statement.{statement}

@@ -1,3 +1,4 @@
+-- `protocol::write::after_call_byte` meets its contract, by whether the byte is the one due.
 use mathlib.Core.Path.{sym, _∙_}
 use borrow.Author.Needs.{needs}
 use Rattle.protocol.proofs.write.after_call_byte.Statement.{statement}

@@ -1,3 +1,4 @@
+-- `protocol::write::after_control` meets its contract, by whether the control byte is legal.
 use mathlib.Core.Path.{sym, _∙_}
 use Rattle.protocol.specs.Write.{afterControl}
 use borrow.Author.Needs.{needs}

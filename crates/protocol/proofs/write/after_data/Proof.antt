@@ -1,3 +1,4 @@
+-- `protocol::write::after_data` meets its contract: the fields that a data byte changes, one by one.
 use Rattle.protocol.specs.Write.{afterData}
 use borrow.Author.Needs.{needs}
 use Rattle.protocol.proofs.write.after_data.Statement.{statement}
@@ -5,7 +6,9 @@ use Rattle.protocol.proofs.write.after_data.Tie as tie
 
 returns : tie.Need-returns
 unfolding afterData
-returns c = simp (c .moved .ensures, c .before .count-after-data .ensures, c .before .before .effective-after-data .ensures, c .before .before .before .with-byte .ensures, c .before .before .before .before .new-byte .ensures, c .before .before .before .before .before .register .ensures)
+returns c =
+    let t = c .before .before in
+    simp (c .moved .ensures, c .before .count-after-data .ensures, t .effective-after-data .ensures, t .before .with-byte .ensures, t .before .before .new-byte .ensures, t .before .before .before .register .ensures)
 
 pub after-data-spec : {M : Type 1} → statement M
 after-data-spec =

@@ -1,3 +1,4 @@
+-- `protocol::write::count_after_data` meets its contract, by whether the byte wakes the driver.
 use mathlib.Core.Path.{sym, _∙_}
 use Rattle.protocol.specs.Write.{countAfterData}
 use borrow.Author.Needs.{needs}

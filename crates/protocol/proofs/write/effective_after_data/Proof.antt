@@ -1,3 +1,4 @@
+-- `protocol::write::effective_after_data` meets its contract, by whether the byte takes effect.
 use mathlib.Core.Path.{sym, _∙_}
 use Rattle.protocol.specs.Write.{effectiveAfterData}
 use borrow.Author.Needs.{needs}
