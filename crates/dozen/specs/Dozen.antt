@@ -4,7 +4,8 @@ use mathlib.Core.Bool.{Bool, true, _&&_}
 use mathlib.Core.List.{List, [], _∷_, _++_}
 use Prim.Native.Nat.{ℕ, _+_, _*_, _-_}
 use lib.Dec.{eqb}
-use Rattle.blink.specs.Start.{euclid, gcdOf, lcmOf, commonStart}
+use Rattle.basics.specs.Divisors.{euclid, gcdOf, lcmOf}
+use Rattle.blink.specs.Start.{commonStart}
 use Rattle.bus.specs.Bus.{emptyBus, busOk}
 use Rattle.bus.specs.Events.{stepReply, stepRefusals, stepDone, numberedReply}
 use Rattle.basics.specs.Bits.{maskFirst}

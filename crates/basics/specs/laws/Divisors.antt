@@ -1,13 +1,12 @@
--- `gcdOf` is the greatest common divisor, `lcmOf` the least common multiple, and a blink begins at the multiples of its period.
+-- `gcdOf` is the greatest common divisor, and `lcmOf` the least common multiple.
 -- `d ∣ n` says that d divides n.
-use mathlib.Core.Path.{_≡_, refl, sym, ap, _∙_}
+use mathlib.Core.Path.{_≡_, refl, ap}
 use mathlib.Core.Logic.{⊎-elim}
-use Prim.Native.Nat.{ℕ, zero, suc, _+_, _*_, _/_, _%_, _∣_, _≤_, _<_}
-use native.Mathlib.Nat.{mul-comm, mul-pos, mod-lt, lt-of-lt-of-le, le-of-suc-le-suc, le-refl, eq-zero-or-pos, eq-of-mul-eq-mul-right, mul-le-mul-left, mul-le-mul-right, dvd-refl, dvd-zero, dvd-trans, dvd-antisymm, dvd-mul-left, dvd-mul-right, dvd-mod-iff, le-of-dvd, pos-of-dvd-of-pos, mul-div-cancel', mul-dvd-mul-left, mul-dvd-mul-right, dvd-of-mul-dvd-mul-left, dvd-of-mul-dvd-mul-right, mod-eq-zero-of-dvd, dvd-of-mod-eq-zero}
+use Prim.Native.Nat.{ℕ, zero, suc, _*_, _/_, _%_, _∣_, _≤_, _<_}
+use native.Mathlib.Nat.{mul-comm, mul-pos, mod-lt, lt-of-lt-of-le, le-of-suc-le-suc, le-refl, eq-zero-or-pos, mul-le-mul-left, mul-le-mul-right, dvd-refl, dvd-zero, dvd-trans, dvd-antisymm, dvd-mul-left, dvd-mul-right, dvd-mod-iff, le-of-dvd, pos-of-dvd-of-pos, mul-div-cancel', mul-dvd-mul-left, mul-dvd-mul-right, dvd-of-mul-dvd-mul-left, dvd-of-mul-dvd-mul-right}
 use native.Mathlib.Omega.{arith}
-use lib.Arith.{mod-mul}
 use borrow.Author.Tests.{ne-eqb}
-use Rattle.blink.specs.Start.{euclid, gcdOf, lcmOf, AtStart}
+use Rattle.basics.specs.Divisors.{euclid, gcdOf, lcmOf}
 
 -- g divides a and b, and whatever divides both divides g
 pub record IsGcd (a b g : ℕ) : Type 0 where
@@ -99,22 +98,3 @@ module _ (a b : ℕ) (A : 0 < a) (B : 0 < b) where
   -- a * b is a common multiple
   pub lcm-le : a ≤ 256 → b ≤ 256 → lcmOf a b ≤ 65536
   lcm-le h k = omega (arith, lcm-is .least (a * b) (mul-pos A B) (dvd-mul-right a b) (dvd-mul-left b a), mul-le-mul-right b h, mul-le-mul-left 256 k)
-
-  -- no number above 0 that 256 * a and 256 * b divide is smaller
-  pub least-256 : (t : ℕ) → 0 < t → 256 * a ∣ t → 256 * b ∣ t → 256 * lcmOf a b ≤ t
-  least-256 t T u v =
-      let n = t / 256 in
-      let e : 256 * n ≡ t = mul-div-cancel' 256 (dvd-trans 256 (dvd-mul-right 256 a) u) in
-      let an : a ∣ n = dvd-of-mul-dvd-mul-left {k = 256} a (omega arith) (rw e u) in
-      let bn : b ∣ n = dvd-of-mul-dvd-mul-left {k = 256} b (omega arith) (rw e v) in
-      omega (arith, lcm-is .least n (omega arith) an bn)
-
--- a blink with the prescaler S begins at the multiples of 256 * (S + 1)
-module _ (S t : ℕ) where
-  pub starts : 256 * (S + 1) ∣ t → AtStart S t
-  starts h =
-      let e : t / (S + 1) % 256 * (S + 1) + t % (S + 1) ≡ 0 = sym (mod-mul t (omega arith) (omega arith)) ∙ mod-eq-zero-of-dvd (256 * (S + 1)) h in
-      (eq-of-mul-eq-mul-right (S + 1) (omega arith) (t / (S + 1) % 256) 0 (omega arith), omega arith)
-
-  pub started : AtStart S t → 256 * (S + 1) ∣ t
-  started h = dvd-of-mod-eq-zero (256 * (S + 1)) (mod-mul t (omega arith) (omega arith) ∙ rw (h .0, h .1) (omega arith))
