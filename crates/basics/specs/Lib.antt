@@ -1,4 +1,5 @@
 pub mod Bits
 pub mod First
 pub mod Tabulate
+pub mod Divisors
 pub mod laws

@@ -2,8 +2,10 @@
 use Prim.Native.Nat.{ℕ, _+_, _*_, _<_}
 use native.Mathlib.Nat.{mul-dvd-mul-left}
 use native.Mathlib.Omega.{arith}
-use Rattle.blink.specs.Start.{lcmOf, commonStart, FirstCommonStart}
-use Rattle.blink.specs.laws.Divisors.{lcm-is, least-256, starts, started}
+use Rattle.basics.specs.Divisors.{lcmOf}
+use Rattle.basics.specs.laws.Divisors.{lcm-is}
+use Rattle.blink.specs.Start.{commonStart, FirstCommonStart}
+use Rattle.blink.specs.laws.Start.{least-256, starts, started}
 
 pub common-start-first : (S₀ S₁ : ℕ) → FirstCommonStart S₀ S₁ (commonStart S₀ S₁)
 unfolding commonStart

@@ -1,2 +1,1 @@
--- How the theorem of `Promises` and the contracts of `src/` are shown.
-pub mod Divisors
+pub mod Start

@@ -2,7 +2,8 @@
 use lamp::BlinkerSteps;
 ghost use mathlib.Core.Path.{_≡_};
 ghost use Prim.Native.Nat.{_≤_, _<_};
-ghost use Rattle.blink.specs.Start.{gcdOf, lcmOf, commonStart};
+ghost use Rattle.basics.specs.Divisors.{gcdOf, lcmOf};
+ghost use Rattle.blink.specs.Start.{commonStart};
 
 // Euclid's algorithm; each remainder is smaller than the last.
 fn gcd(a: u64, b: u64) -> u64

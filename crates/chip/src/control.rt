@@ -58,9 +58,9 @@ fn option_first(chip: Chip, option: u8) -> u8
 {
     let map = crate::register_map(chip);
     match option {
-        5 => 2,
+        5 => crate::PWM0,
         6 => map.grppwm,
-        7 => 2,
+        7 => crate::PWM0,
         _ => 0,
     }
 }

@@ -1,10 +1,11 @@
 // What registers hold: after reset, after a write, and as they are read.
 use crate::Chip;
 ghost use mathlib.Core.Path.{_≡_};
+ghost use mathlib.Core.Bool.{true};
 ghost use mathlib.Core.List.{_++_};
 ghost use lib.ListN.{replicate};
-ghost use Rattle.chip.specs.Kinds.{outputsOf};
-ghost use Rattle.chip.specs.Values.{resetControl, driverResets, blinkerResets, resetRegisters, writableBits, storedByte, readByte};
+ghost use Rattle.chip.specs.Kinds.{isDriver, outputsOf};
+ghost use Rattle.chip.specs.Values.{resetControl, blinkerResets, resetRegisters, writableBits, storedByte, readByte};
 
 pub fn reset_control(chip: Chip) -> u8
     ensures { λ r. ⌜ r ≡ resetControl chip ⌝ }
@@ -12,44 +13,38 @@ pub fn reset_control(chip: Chip) -> u8
     if crate::is_driver(chip) { 0x80 } else { 0 }
 }
 
-fn pca9635_resets() -> [u8; 28]
-    ensures { λ r. ⌜ r ≡ driverResets 16 ⌝ }
+fn driver_resets(chip: Chip) -> [u8; 28]
+    requires { ⌜ isDriver chip ≡ true ⌝ }
+    ensures { λ r. ⌜ r ≡ resetRegisters chip ⌝ }
 {
+    let map = crate::register_map(chip);
+    let grppwm = map.grppwm as usize;
+    let subadr1 = map.subadr1 as usize;
+    let allcalladr = map.allcalladr as usize;
     let mut registers = [0u8; 28];
-    registers[0] = 0x91;
-    registers[1] = 0x05;
-    registers[18] = 0xFF;
-    registers[24] = 0xE2;
-    registers[25] = 0xE4;
-    registers[26] = 0xE8;
-    registers[27] = 0xE0;
-    registers
-}
-
-fn pca9634_resets() -> [u8; 28]
-    ensures { λ r. ⌜ r ≡ driverResets 8 ++ replicate 10 0 ⌝ }
-{
-    let mut registers = [0u8; 28];
-    registers[0] = 0x91;
-    registers[1] = 0x05;
-    registers[10] = 0xFF;
-    registers[14] = 0xE2;
-    registers[15] = 0xE4;
-    registers[16] = 0xE8;
-    registers[17] = 0xE0;
+    registers[crate::MODE1 as usize] = 0x91;
+    registers[crate::MODE2 as usize] = 0x05;
+    registers[grppwm] = 0xFF;
+    registers[subadr1] = 0xE2;
+    registers[subadr1 + 1] = 0xE4;
+    registers[subadr1 + 2] = 0xE8;
+    registers[allcalladr] = 0xE0;
     registers
 }
 
 fn blinker_resets(psc: u8, ls: u8) -> [u8; 28]
     ensures { λ r. ⌜ r ≡ blinkerResets psc ls ++ replicate 21 0 ⌝ }
 {
+    let psc0 = crate::PSC0 as usize;
+    let pwm0 = crate::BLINK_PWM0 as usize;
+    let ls0 = crate::LS0 as usize;
     let mut registers = [0u8; 28];
-    registers[1] = psc;
-    registers[2] = 0x80;
-    registers[3] = psc;
-    registers[4] = 0x80;
-    registers[5] = ls;
-    registers[6] = ls;
+    registers[psc0] = psc;
+    registers[pwm0] = 0x80;
+    registers[psc0 + 2] = psc;
+    registers[pwm0 + 2] = 0x80;
+    registers[ls0] = ls;
+    registers[ls0 + 1] = ls;
     registers
 }
 
@@ -58,8 +53,8 @@ pub fn reset_registers(chip: Chip) -> [u8; 28]
     ensures { λ r. ⌜ r ≡ resetRegisters chip ⌝ }
 {
     match chip {
-        Chip::Pca9635 => pca9635_resets(),
-        Chip::Pca9634 => pca9634_resets(),
+        Chip::Pca9635 => driver_resets(chip),
+        Chip::Pca9634 => driver_resets(chip),
         Chip::Pca9531 => blinker_resets(0, 0),
         Chip::Pca9551 => blinker_resets(0xFF, 0x55),
     }
@@ -69,9 +64,9 @@ fn writable_bits(chip: Chip, register: u8, byte: u8) -> u8
     ensures { λ r. ⌜ r ≡ writableBits (outputsOf chip) register byte ⌝ }
 {
     let map = crate::register_map(chip);
-    if register == 0 {
+    if register == crate::MODE1 {
         byte % 32
-    } else if register == 1 {
+    } else if register == crate::MODE2 {
         byte % 64
     } else if map.subadr1 <= register {
         byte / 2 * 2
@@ -86,7 +81,7 @@ pub fn stored(chip: Chip, register: u8, old: u8, byte: u8) -> u8
 {
     if crate::is_driver(chip) {
         writable_bits(chip, register, byte)
-    } else if register == 0 {
+    } else if register == crate::INPUT {
         old
     } else {
         byte
@@ -99,7 +94,7 @@ pub fn read(chip: Chip, control: u8, byte: u8) -> u8
 {
     if crate::is_driver(chip) {
         let register = crate::control::register(chip, control);
-        if register == 0 {
+        if register == crate::MODE1 {
             byte % 32 + control / 32 * 32
         } else {
             writable_bits(chip, register, byte)

@@ -3,7 +3,7 @@ pub mod Reset
 pub mod Registers
 pub mod Wait
 pub mod Output
-pub mod Blink
+pub mod Start
 pub mod WellFormed
 pub mod laws
 pub mod Promises

@@ -23,8 +23,8 @@ fresh chip address =
     }
 
 -- registers, both copies, the control byte and the count as after power-on, and deselected; OE, the outside levels and all else stay
-unfoldable pub resetOf : Device → Device
-resetOf d =
+unfoldable pub afterReset : Device → Device
+afterReset d =
     withStage
     (withControl
     (withCount

@@ -23,8 +23,8 @@ unfoldable pub advanced : ℕ → ℕ → ℕ
 advanced t w = cond (leb (t + w) countLimit) (t + w) t
 
 -- asleep the count stands still
-unfoldable pub waitedOf : Device → ℕ → Device
-waitedOf d w = cond (isAwake d) (withCount d (advanced (d .count) w)) d
+unfoldable pub afterWait : Device → ℕ → Device
+afterWait d w = cond (isAwake d) (withCount d (advanced (d .count) w)) d
 
 -- ---- a duration, which says its unit
 
@@ -41,5 +41,5 @@ ownDuration chip n = cond (isDriver chip) (Ticks (record { 0 = n })) (Steps (rec
 abbrev pub overrunsFor : Device → Duration → Bool
 overrunsFor d w = isOwn (d .chip) w && overruns d (amount w)
 
-abbrev pub waitedFor : Device → Duration → Device
-waitedFor d w = cond (isOwn (d .chip) w) (waitedOf d (amount w)) d
+abbrev pub afterWaitFor : Device → Duration → Device
+afterWaitFor d w = cond (isOwn (d .chip) w) (afterWait d (amount w)) d

@@ -1,5 +1,6 @@
 // What an output follows, whether it is lit, for how many ticks, and the level of its pin.
 use crate::Device;
+use crate::registers;
 use chip::Chip;
 use lamp::BlinkerMode;
 use lamp::BlinkerSteps;
@@ -7,10 +8,16 @@ use lamp::DriverMode;
 use lamp::DriverTicks;
 ghost use mathlib.Core.Path.{_≡_};
 ghost use mathlib.Core.Bool.{cond};
-ghost use Prim.Native.Nat.{_^_, _<_};
 ghost use Rattle.lamp.specs.declared.Duration.the-variants.{Ticks, Steps};
 ghost use Rattle.chip.specs.Kinds.{outputsOf};
-ghost use Rattle.device.specs.Output.{pairOf, driverOutput, blinkerMode, blinkerOutput, litNow, litFor, undriven, disabledPin, driverPin, pinOf, inputBit, inputByte};
+ghost use Rattle.device.specs.Output.{pairOf, driverOutput, blinkerMode, blinkOf, blinkerOutput, litNow, litFor, undriven, disabledPin, driverPin, pinOf, inputBit, inputByte};
+
+// The levels of a pin.
+const LOW: u64 = 0;
+
+const HIGH: u64 = 1;
+
+const HIGH_Z: u64 = 2;
 
 fn pair(byte: u8, out: u8) -> u8
     ensures { λ r. ⌜ r ≡ pairOf byte out ⌝ }
@@ -33,11 +40,12 @@ fn driver_output(d: Device, out: u8) -> DriverMode
     let chip = d.chip;
     let map = chip::register_map(chip);
     let group = map.ledout0 as usize + out as usize / 4;
-    let ledout = pair(crate::registers::in_effect(d, group), out);
-    let pwm = crate::registers::in_effect(d, 2 + out as usize);
-    let grppwm = crate::registers::in_effect(d, map.grppwm as usize);
-    let grpfreq = crate::registers::in_effect(d, map.grpfreq as usize);
-    lamp::driver_mode(ledout, d.written[1] / 32 % 2 == 1, pwm, grppwm, grpfreq)
+    let ledout = pair(registers::in_effect(d, group), out);
+    let pwm = registers::in_effect(d, chip::PWM0 as usize + out as usize);
+    let grppwm = registers::in_effect(d, map.grppwm as usize);
+    let grpfreq = registers::in_effect(d, map.grpfreq as usize);
+    let blinking = registers::is_blinking(d.written[chip::MODE2 as usize]);
+    lamp::driver_mode(ledout, blinking, pwm, grppwm, grpfreq)
 }
 
 fn pca9531_mode(ls: u8, psc: u8, pwm: u8) -> BlinkerMode
@@ -71,17 +79,25 @@ fn blinker_mode(chip: Chip, ls: u8, psc: u8, pwm: u8) -> BlinkerMode
     }
 }
 
+fn blink_of(ls: u8) -> u8
+    ensures { λ r. ⌜ r ≡ blinkOf ls ⌝ }
+{
+    if ls == 3 { 2 } else { 0 }
+}
+
 fn blinker_output(d: Device, out: u8) -> BlinkerMode
     ensures { λ r. ⌜ r ≡ blinkerOutput d out ⌝ }
 {
     let chip = d.chip;
     let written = d.written;
-    let ls = pair(crate::registers::at(written, 5 + out as usize / 4), out);
-    if ls == 3 {
-        blinker_mode(chip, ls, d.written[3], d.written[4])
-    } else {
-        blinker_mode(chip, ls, d.written[1], d.written[2])
-    }
+    let ls = pair(
+        registers::at(written, chip::LS0 as usize + out as usize / 4),
+        out,
+    );
+    let blink = blink_of(ls) as usize;
+    let psc = registers::at(written, chip::PSC0 as usize + blink);
+    let pwm = registers::at(written, chip::BLINK_PWM0 as usize + blink);
+    blinker_mode(chip, ls, psc, pwm)
 }
 
 // 01's "lit", at the present count.
@@ -102,7 +118,7 @@ pub fn driver_lit(d: Device, out: u8, ticks: DriverTicks) -> DriverTicks
 {
     let chip = d.chip;
     if chip::is_driver(chip) {
-        if crate::registers::is_awake(d) {
+        if registers::is_awake(d) {
             lamp::driver_lit_ticks(driver_output(d, out), DriverTicks(d.count), ticks)
         } else if is_lit(d, out) {
             ticks
@@ -129,19 +145,23 @@ pub fn blinker_lit(d: Device, out: u8, steps: BlinkerSteps) -> BlinkerSteps
 fn undriven(d: Device) -> u64
     ensures { λ r. ⌜ r ≡ undriven d ⌝ }
 {
-    if d.written[1] / 4 % 2 == 1 { 1 } else { 2 }
+    if registers::is_totem_pole(d.written[chip::MODE2 as usize]) {
+        HIGH
+    } else {
+        HIGH_Z
+    }
 }
 
 fn disabled_pin(d: Device) -> u64
     ensures { λ r. ⌜ r ≡ disabledPin d ⌝ }
 {
-    let outne = d.written[1] % 4;
+    let outne = registers::outne(d.written[chip::MODE2 as usize]);
     if outne == 0 {
-        0
+        LOW
     } else if outne == 1 {
         undriven(d)
     } else {
-        2
+        HIGH_Z
     }
 }
 
@@ -150,14 +170,13 @@ fn driver_pin(d: Device, lit: bool) -> u64
 {
     if d.oe {
         disabled_pin(d)
-    } else if d.written[1] / 16 % 2 == 1 {
-        if lit { undriven(d) } else { 0 }
+    } else if registers::is_inverted(d.written[chip::MODE2 as usize]) {
+        if lit { undriven(d) } else { LOW }
     } else {
-        if lit { 0 } else { undriven(d) }
+        if lit { LOW } else { undriven(d) }
     }
 }
 
-// 0 low, 1 high, 2 high-Z.
 pub fn pin(d: Device, out: u8) -> u64
     ensures { λ r. ⌜ r ≡ pinOf d out ⌝ }
 {
@@ -165,19 +184,18 @@ pub fn pin(d: Device, out: u8) -> u64
     if chip::is_driver(chip) {
         driver_pin(d, is_lit(d, out))
     } else if is_lit(d, out) {
-        0
+        LOW
     } else {
-        2
+        HIGH_Z
     }
 }
 
 fn input_weight(d: Device, i: u8, weight: u16) -> u16
-    requires { ⌜ weight ≡ 2 ^ i ⌝ }
     ensures { λ r. ⌜ r ≡ cond (inputBit d i) weight 0 ⌝ }
 {
     if is_lit(d, i) {
         0
-    } else if d.levels as u16 / weight % 2 == 1 {
+    } else if registers::bit(i, d.levels) {
         weight
     } else {
         0

@@ -1,8 +1,16 @@
-// A device's registers, as written and as in effect.
+// A device's registers, as written and as in effect, and the bits of MODE1 and MODE2.
 use crate::Device;
 ghost use mathlib.Core.Path.{_≡_};
+ghost use Prim.Native.Nat.{_%_};
 ghost use lib.ListN.{getD, set};
-ghost use Rattle.device.specs.Registers.{inEffect, isAwake};
+ghost use Rattle.device.specs.Registers.{bit, inEffect, isAwake};
+
+// Bit k of a byte is set.
+pub fn bit(k: u8, byte: u8) -> bool
+    ensures { λ r. ⌜ r ≡ bit k byte ⌝ }
+{
+    if k < 8 { (byte >> k) % 2 == 1 } else { false }
+}
 
 pub fn at(registers: [u8; 28], register: usize) -> u8
     ensures { λ r. ⌜ r ≡ getD registers register 0 ⌝ }
@@ -38,14 +46,54 @@ pub fn in_effect(d: Device, register: usize) -> u8
     }
 }
 
+pub fn is_sleep(mode1: u8) -> bool
+    ensures { λ r. ⌜ r ≡ bit 4 mode1 ⌝ }
+{
+    bit(4, mode1)
+}
+
 // 01's "awake": SLEEP 0; a blinker is always awake.
 pub fn is_awake(d: Device) -> bool
     ensures { λ r. ⌜ r ≡ isAwake d ⌝ }
 {
     let chip = d.chip;
     if chip::is_driver(chip) {
-        d.written[0] / 16 % 2 != 1
+        !is_sleep(d.written[chip::MODE1 as usize])
     } else {
         true
     }
+}
+
+// DMBLNK: group blinking, not dimming.
+pub(crate) fn is_blinking(mode2: u8) -> bool
+    ensures { λ r. ⌜ r ≡ bit 5 mode2 ⌝ }
+{
+    bit(5, mode2)
+}
+
+// INVRT.
+pub(crate) fn is_inverted(mode2: u8) -> bool
+    ensures { λ r. ⌜ r ≡ bit 4 mode2 ⌝ }
+{
+    bit(4, mode2)
+}
+
+// OCH: outputs change at the acknowledge.
+pub fn is_och(mode2: u8) -> bool
+    ensures { λ r. ⌜ r ≡ bit 3 mode2 ⌝ }
+{
+    bit(3, mode2)
+}
+
+// OUTDRV: totem pole, not open drain.
+pub(crate) fn is_totem_pole(mode2: u8) -> bool
+    ensures { λ r. ⌜ r ≡ bit 2 mode2 ⌝ }
+{
+    bit(2, mode2)
+}
+
+pub(crate) fn outne(mode2: u8) -> u8
+    ensures { λ r. ⌜ r ≡ mode2 % 4 ⌝ }
+{
+    mode2 % 4
 }

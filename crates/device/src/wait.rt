@@ -6,7 +6,7 @@ use lamp::DriverTicks;
 use lamp::Duration;
 ghost use mathlib.Core.Path.{_≡_};
 ghost use Rattle.lamp.specs.declared.Duration.the-variants.{Ticks, Steps};
-ghost use Rattle.device.specs.Wait.{advanced, isOwn, ownDuration, overrunsFor, waitedFor};
+ghost use Rattle.device.specs.Wait.{advanced, isOwn, ownDuration, overrunsFor, afterWaitFor};
 
 // A bare number of ticks, as 01's events have it, in the unit of the chip's kind.
 pub fn own_duration(chip: Chip, n: u64) -> Duration
@@ -87,8 +87,8 @@ fn blinker_advanced(at: BlinkerSteps, steps: BlinkerSteps) -> BlinkerSteps
 }
 
 // Asleep a driver's count stands still.
-pub fn driver_waited(d: Device, ticks: DriverTicks) -> Device
-    ensures { λ r. ⌜ r ≡ waitedFor d (Ticks ticks) ⌝ }
+pub fn driver_after_wait(d: Device, ticks: DriverTicks) -> Device
+    ensures { λ r. ⌜ r ≡ afterWaitFor d (Ticks ticks) ⌝ }
 {
     let chip = d.chip;
     let mut next = d;
@@ -105,8 +105,8 @@ pub fn driver_waited(d: Device, ticks: DriverTicks) -> Device
     }
 }
 
-pub fn blinker_waited(d: Device, steps: BlinkerSteps) -> Device
-    ensures { λ r. ⌜ r ≡ waitedFor d (Steps steps) ⌝ }
+pub fn blinker_after_wait(d: Device, steps: BlinkerSteps) -> Device
+    ensures { λ r. ⌜ r ≡ afterWaitFor d (Steps steps) ⌝ }
 {
     let chip = d.chip;
     let mut next = d;
@@ -119,11 +119,11 @@ pub fn blinker_waited(d: Device, steps: BlinkerSteps) -> Device
     }
 }
 
-pub fn waited(d: Device, duration: Duration) -> Device
-    ensures { λ r. ⌜ r ≡ waitedFor d duration ⌝ }
+pub fn after_wait(d: Device, duration: Duration) -> Device
+    ensures { λ r. ⌜ r ≡ afterWaitFor d duration ⌝ }
 {
     match duration {
-        Duration::Ticks(ticks) => driver_waited(d, ticks),
-        Duration::Steps(steps) => blinker_waited(d, steps),
+        Duration::Ticks(ticks) => driver_after_wait(d, ticks),
+        Duration::Steps(steps) => blinker_after_wait(d, steps),
     }
 }

@@ -1,3 +1,4 @@
 pub mod Output
+pub mod laws
 pub mod Promises
 pub mod Witness

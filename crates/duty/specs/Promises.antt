@@ -1,26 +1,21 @@
 -- Demand 3 on the answers of lit: the bounds for every bus, position, output and length, and that each bound is reached. That the buses of which it speaks exist is in `Witness`.
 -- Once over the number of outputs: a driver's chip is a variable.
 use mathlib.Core.Path.{_≡_, refl, ap, _∙_}
-use mathlib.Core.Bool.{Bool, true, false, and-false}
+use mathlib.Core.Bool.{Bool, true}
 use Prim.Native.Nat.{ℕ, _+_, _-_, _*_, _≤_, _<_}
-use native.Mathlib.Omega.{arith}
-use lib.Dec.{leb, ltb}
-use borrow.Author.Tests.{le-leb, le-ltb, not-false}
+use lib.Dec.{ltb}
+use Rattle.basics.specs.laws.Logic.{neither}
 use Rattle.lamp.specs.Window.{litTicks, countLimit, countedTicks}
 use Rattle.lamp.specs.Driver.{driverLit}
 use Rattle.lamp.specs.Duty.{Bounded}
 use Rattle.lamp.specs.Promises.{individual-duty, dimmed-duty}
 use Rattle.lamp.specs.declared.DriverMode.{DriverMode}
 use Rattle.lamp.specs.declared.DriverMode.the-variants as Mode
-use Rattle.chip.specs.Kinds.{isDriver, outputsOf}
-use Rattle.basics.specs.laws.Logic.{neither}
 use Rattle.device.specs.Registers.{isAwake}
-use Rattle.device.specs.Output.{driverOutput, lampLit, litOf}
+use Rattle.device.specs.Output.{lampLit, litOf}
 use Rattle.device.specs.Wait.{overruns}
 use Rattle.device.specs.declared.Device.{Device}
-use Rattle.refusals.specs.Refusals.{least, codeOf}
 use Rattle.bus.specs.Bus.{deviceAt}
-use Rattle.bus.specs.Replies.{answer}
 use Rattle.bus.specs.Place.{questionRefusals, valueOf}
 use Rattle.bus.specs.Events.{stepReply, stepRefusals, stepDone, litReply}
 use Rattle.bus.specs.laws.Replies.{answer-done}
@@ -28,13 +23,10 @@ use Rattle.bus.specs.declared.Bus.{Bus}
 use Rattle.bus.specs.declared.Event.the-variants.{Ask}
 use Rattle.bus.specs.declared.Question.the-variants.{Lit}
 use Rattle.bus.specs.declared.Reply.{Reply}
-use Rattle.duty.specs.Output.{Output, Individual, Dimmed, Stands}
+use Rattle.duty.specs.Output.{Individual, Dimmed, Stands}
+use Rattle.duty.specs.laws.Lit.{in-limit, individual-mode, dimmed-mode, counts, lit-accepted}
 
 -- ---- lit's value is the tick-by-tick sum
-
-in-limit : (d : Device) (w : ℕ) → isAwake d ≡ true → overruns d w ≡ false → leb (d .count + w) countLimit ≡ true
-unfolding overruns
-in-limit d w a o = not-false (leb (d .count + w) countLimit) (rw a at o)
 
 -- for an awake device, driver or blinker: the number of ticks among t .. t+w-1 at which the lamp's test holds
 pub lit-sum : (b : Bus) (dev out w : ℕ) → litReply b dev out w .code ≡ 0 → isAwake (deviceAt b dev) ≡ true → litReply b dev out w .value ≡ litTicks (lampLit (deviceAt b dev) out) (deviceAt b dev .count) w
@@ -46,29 +38,13 @@ lit-sum b dev out w c a =
 
 -- ---- what an output follows
 
-follows : (d : Device) (out : ℕ) → isDriver (d .chip) ≡ true → lampLit d out ≡ driverLit (driverOutput d (outputsOf (d .chip)) out)
-unfolding lampLit
-follows d out h = rw h refl
-
-individual-mode : (d : Device) (out N : ℕ) → Individual d out N → driverOutput d (outputsOf (d .chip)) out ≡ Mode.Individual N
-unfolding driverOutput
-individual-mode d out N o = rw (o .mode-is, o .brightness) refl
-
-dimmed-mode : (d : Device) (out M N : ℕ) → Dimmed d out M N → driverOutput d (outputsOf (d .chip)) out ≡ Mode.Dimmed N M
-unfolding driverOutput
-dimmed-mode d out M N o = rw (o .output .mode-is, o .steady, o .output .brightness, o .dimming) refl
-
--- lit counts by the mode that an awake driver's output follows
-counts : (b : Bus) (dev out w mode N : ℕ) (m : DriverMode) → Output (deviceAt b dev) out mode N → driverOutput (deviceAt b dev) (outputsOf (deviceAt b dev .chip)) out ≡ m → litReply b dev out w .code ≡ 0 → litReply b dev out w .value ≡ litTicks (driverLit m) (deviceAt b dev .count) w
-counts b dev out w mode N m o e c =
-    lit-sum b dev out w c (o .awake)
-    ∙ ap (λ (lit : ℕ → Bool). litTicks lit (deviceAt b dev .count) w) (follows (deviceAt b dev) out (o .driver) ∙ ap driverLit e)
-
 individual-counts : (N : ℕ) (b : Bus) (dev out w : ℕ) → Individual (deviceAt b dev) out N → litReply b dev out w .code ≡ 0 → litReply b dev out w .value ≡ litTicks (driverLit (Mode.Individual N)) (deviceAt b dev .count) w
-individual-counts N b dev out w o c = counts b dev out w 2 N (Mode.Individual N) o (individual-mode (deviceAt b dev) out N o) c
+individual-counts N b dev out w o c =
+    lit-sum b dev out w c (o .awake) ∙ counts (deviceAt b dev) out w 2 N (Mode.Individual N) o (individual-mode (deviceAt b dev) out N o)
 
 dimmed-counts : (M N : ℕ) (b : Bus) (dev out w : ℕ) → Dimmed (deviceAt b dev) out M N → litReply b dev out w .code ≡ 0 → litReply b dev out w .value ≡ litTicks (driverLit (Mode.Dimmed N M)) (deviceAt b dev .count) w
-dimmed-counts M N b dev out w o c = counts b dev out w 3 N (Mode.Dimmed N M) (o .output) (dimmed-mode (deviceAt b dev) out M N o) c
+dimmed-counts M N b dev out w o c =
+    lit-sum b dev out w c (o .output .awake) ∙ counts (deviceAt b dev) out w 3 N (Mode.Dimmed N M) (o .output) (dimmed-mode (deviceAt b dev) out M N o)
 
 -- ---- the bounds, over every window
 
@@ -95,14 +71,6 @@ dimmed-bound M N hM hN b dev out w o c =
 abbrev pub Reached : (Device → ℕ → Type 0) → (ℕ → ℕ → Type 0) → Type 0
 Reached set far =
     (t : ℕ) × (w : ℕ) × (t + w ≤ countLimit) × ((b : Bus) (dev out : ℕ) → Stands b dev out t → set (deviceAt b dev) out → (litReply b dev out w .code ≡ 0) × far w (litReply b dev out w .value))
-
--- lit is accepted where the window ends by the limit
-lit-accepted : (b : Bus) (dev out t w : ℕ) → Stands b dev out t → t + w ≤ countLimit → litReply b dev out w .code ≡ 0
-unfolding stepReply stepRefusals stepDone questionRefusals answer codeOf least overruns
-lit-accepted b dev out t w s h =
-    let e : leb (deviceAt b dev .count + w) countLimit ≡ true = rw (s .at) (le-leb (t + w) countLimit h) in
-    let l : ltb countLimit w ≡ false = le-ltb countLimit w (omega arith) in
-    rw (s .formed, s .there, s .has-output, l, e, and-false (isAwake (deviceAt b dev))) refl
 
 reached : (lit : ℕ → Bool) (set : Device → ℕ → Type 0) (far : ℕ → ℕ → Type 0) → ((b : Bus) (dev out w : ℕ) → set (deviceAt b dev) out → litReply b dev out w .code ≡ 0 → litReply b dev out w .value ≡ litTicks lit (deviceAt b dev .count) w) → (t w : ℕ) → t + w ≤ countLimit → far w (litTicks lit t w) → Reached set far
 reached lit set far count t w h f = (

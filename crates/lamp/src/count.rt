@@ -1,13 +1,11 @@
 // The lit ticks among the first x, in each mode. They are counted by whole periods and a remainder, so that 2 ^ 47 ticks cost no more than ten.
+use crate::driver;
 ghost use mathlib.Core.Path.{_≡_};
 ghost use Prim.Native.Nat.{min, _+_, _^_, _≤_, _<_};
 ghost use Rattle.lamp.specs.Window.{litTicks};
-ghost use Rattle.lamp.specs.Driver.{individual, grouped, dimmed, blinkPeriod, blinkOn, blinking};
+ghost use Rattle.lamp.specs.Driver.{individual, grouped, dimmed, blinking};
 ghost use Rattle.lamp.specs.Blinker.{litBelow};
 ghost use Rattle.lamp.specs.laws.Count.{dutyCount};
-
-// The period of group dimming, a multiple of the 256 ticks of a brightness.
-pub const DIMMING_PERIOD: u64 = 131072;
 
 fn least(a: u64, b: u64) -> u64
     ensures { λ r. ⌜ r ≡ min a b ⌝ }
@@ -29,7 +27,8 @@ pub fn dimmed(pwm: u8, grppwm: u8, x: u64) -> u64
 {
     let n = pwm as u64;
     let on = 512 * (grppwm as u64);
-    x / DIMMING_PERIOD * duty(256, n, on) + duty(256, n, least(x % DIMMING_PERIOD, on))
+    x / driver::DIMMING_PERIOD * duty(256, n, on)
+        + duty(256, n, least(x % driver::DIMMING_PERIOD, on))
 }
 
 // The lit ticks of a window at individual brightness.
@@ -55,26 +54,12 @@ fn by_period(period: u64, on: u64, pwm: u8, x: u64) -> u64
     lit + individual_window(pwm, periods * period, least(x % period, on))
 }
 
-// The period of group blinking.
-pub fn blink_period(grpfreq: u8) -> u64
-    ensures { λ r. ⌜ r ≡ blinkPeriod grpfreq ⌝ }
-{
-    25000000 * (grpfreq as u64 + 1) / 24
-}
-
-// The ticks of each blink period for which the group test holds.
-pub fn blink_on(grppwm: u8, grpfreq: u8) -> u64
-    ensures { λ r. ⌜ r ≡ blinkOn grpfreq grppwm ⌝ }
-{
-    grppwm as u64 * blink_period(grpfreq) / 256
-}
-
 // Group blinking. Its period is in general no multiple of 256, but after 256 blink periods the brightness starts again too.
 pub fn blinking(pwm: u8, grppwm: u8, grpfreq: u8, x: u64) -> u64
     ensures { λ r. ⌜ r ≡ litTicks (blinking grpfreq grppwm pwm) 0 x ⌝ }
 {
-    let period = blink_period(grpfreq);
-    let on = blink_on(grppwm, grpfreq);
+    let period = driver::blink_period(grpfreq);
+    let on = driver::blink_on(grppwm, grpfreq);
     let cycle = 256 * period;
     x / cycle * by_period(period, on, pwm, cycle) + by_period(period, on, pwm, x % cycle)
 }

@@ -4,7 +4,7 @@ use mathlib.Core.Bool.{Bool, false, not, _||_, cond}
 use mathlib.Core.List.{List, [], _∷_, _++_, map}
 use lib.Dec.{ltb, eqb}
 use lib.ListN.{length, take, drop}
-use Rattle.protocol.specs.Signal.{isOpen}
+use Rattle.protocol.specs.Signals.{isOpen}
 use Rattle.bus.specs.Refusals.{Refusal, refuse}
 use Rattle.bus.specs.Bus.{busOk}
 use Rattle.bus.specs.Replies.{doneWith, answer}

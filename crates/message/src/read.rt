@@ -35,7 +35,7 @@ fn read_code(bus: Bus, address: u64, control: u64, n: u64, place: u64, size: u64
 {
     let phase = bus.phase;
     if bus::is_ok(bus) {
-        if protocol::after::is_open(phase) {
+        if protocol::signals::is_open(phase) {
             5
         } else {
             if is_bad(address, control, n) {

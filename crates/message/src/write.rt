@@ -15,7 +15,7 @@ fn write_code(bus: Bus, address: u64) -> u64
 {
     let phase = bus.phase;
     if bus::is_ok(bus) {
-        if protocol::after::is_open(phase) {
+        if protocol::signals::is_open(phase) {
             5
         } else {
             if 127 < address { 7 } else { 0 }

@@ -3,6 +3,7 @@ pub mod Write
 pub mod Put
 pub mod Read
 pub mod Stop
-pub mod Signal
+pub mod Signals
+pub mod laws
 pub mod Promises
 pub mod Guarantees

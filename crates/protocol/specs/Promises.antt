@@ -1,144 +1,18 @@
 -- Whatever happens on the bus leaves a well-formed record well formed, in the phase that the message then has.
-use mathlib.Core.Path.{_≡_, refl}
-use mathlib.Core.Bool.{Bool, true, false, _&&_, cond, false≢true}
-use Prim.Native.Nat.{ℕ, _/_, _%_}
-use lib.Dec.{leb, eqb}
-use Rattle.lamp.specs.Window.{countLimit}
-use Rattle.chip.specs.Kinds.{isDriver, outputsOf}
-use Rattle.chip.specs.Control.{controlLegal, controlMoved}
-use Rattle.chip.specs.Promises.{moved-legal}
-use Rattle.basics.specs.laws.Logic.{tested, holds, fails}
-use Rattle.device.specs.Fields.{withStage, withControl, withEffective}
-use Rattle.device.specs.Registers.{isAwake}
-use Rattle.device.specs.Reset.{resetOf}
-use Rattle.device.specs.WellFormed.{isRead, recordOk, stageFits, wellFormed}
-use Rattle.device.specs.Promises.{reset-well}
-use Rattle.device.specs.laws.WellFormed.{ok, fits, well, well-formed-ok, zero-within, WellIn}
+use mathlib.Core.Path.{_≡_}
+use mathlib.Core.Bool.{true}
+use Rattle.device.specs.WellFormed.{wellFormed}
+use Rattle.device.specs.laws.WellFormed.{well-formed-ok}
 use Rattle.device.specs.declared.Device.{Device}
 use Rattle.device.specs.declared.Phase.{Phase}
-use Rattle.device.specs.declared.Phase.the-variants as P
-use Rattle.device.specs.declared.Stage.{Stage}
-use Rattle.device.specs.declared.Stage.the-variants.{Unselected, Control, Data, Talking, ResetCall, ResetFirst, ResetBoth}
-use Rattle.protocol.specs.Selection.{startedOf, answers, stageAfter, phaseAfter}
-use Rattle.protocol.specs.Write.{pointedAt, wakes, countAfter, storedIn, isCallByte, takenAt, takenBy}
-use Rattle.protocol.specs.Put.{heardBy}
-use Rattle.protocol.specs.Read.{isTalking, movedOn, gottenFrom, phaseAfterGet}
-use Rattle.protocol.specs.Signal.{takesPut, inTurn, phaseAfterPut, phaseAfterSignal, deviceAfter}
+use Rattle.protocol.specs.Signals.{inTurn, phaseAfterSignal, afterSignal}
+use Rattle.protocol.specs.laws.WellFormed.{started-well, stopped-well, put-well, get-well}
 use Rattle.protocol.specs.declared.Signal.{Signal}
 use Rattle.protocol.specs.declared.Signal.the-variants.{Start, Stop, Put, Get}
-use Rattle.protocol.specs.Stop.{committed, effectOfStop, tookReset, stoppedOf}
 
--- ---- START
-
-pub started-well : (d : Device) → recordOk d ≡ true → wellFormed P.Address (startedOf d) ≡ true
-started-well d h = well P.Address (startedOf d) (ok d h) refl
-
--- ---- a byte that is put
-
-stage-fits : (call even driver called : Bool) → stageFits (cond even P.Write P.Read) (cond call (cond (even && driver) ResetCall Unselected) (cond called (cond even Control Talking) Unselected)) ≡ true
-stage-fits true true true called = refl
-stage-fits true true false called = refl
-stage-fits true false driver called = refl
-stage-fits false true driver true = refl
-stage-fits false true driver false = refl
-stage-fits false false driver true = refl
-stage-fits false false driver false = refl
-
-pub addressed-well : (byte : ℕ) (d : Device) → recordOk d ≡ true → wellFormed (phaseAfter byte) (heardBy P.Address byte d) ≡ true
-unfolding heardBy stageAfter
-addressed-well byte d h =
-    well (phaseAfter byte) (heardBy P.Address byte d) (ok d h)
-    (stage-fits (eqb (byte / 2) 3) (eqb (byte % 2) 0) (isDriver (d .chip)) (answers d (byte / 2)))
-
-pointed-well : (byte : ℕ) (d : Device) → recordOk d ≡ true → WellIn P.Write (pointedAt byte d)
-unfolding pointedAt
-pointed-well byte d h =
-    elim (tested (controlLegal (d .chip) byte)) [
-      | holds e ↦ rw e (well P.Write (withControl (withStage d Data) byte) (record { legal = e; allowed = ok d h .allowed; within = ok d h .within }) refl)
-      | fails e ↦ rw e (well P.Write (withStage d Unselected) (ok d h) refl)
-    ]
-
-stored-well : (byte : ℕ) (d : Device) → WellIn P.Write d → WellIn P.Write (storedIn byte d)
-unfolding storedIn countAfter
-stored-well byte d h =
-    let o = ok d (well-formed-ok P.Write d h) in
-    well P.Write (storedIn byte d) (
-    record {
-      legal = moved-legal (d .chip) (d .control) (o .legal);
-      allowed = o .allowed;
-      within = elim (tested (wakes byte d)) [ holds e ↦ rw e zero-within | fails e ↦ rw e (o .within) ];
-    }
-    ) (fits P.Write d h)
-
-call-well : (due byte : ℕ) (d : Device) (s : Stage) → recordOk d ≡ true → stageFits P.Write s ≡ true → WellIn P.Write (withStage d (cond (isCallByte due byte d) s Unselected))
-call-well due byte d s h f =
-    elim (tested (isCallByte due byte d)) [
-      | holds e ↦ rw e (well P.Write (withStage d s) (ok d h) f)
-      | fails e ↦ rw e (well P.Write (withStage d Unselected) (ok d h) refl)
-    ]
-
-taken-well : (byte : ℕ) (d : Device) (s : Stage) → WellIn P.Write d → WellIn P.Write (takenAt s byte d)
-taken-well byte d Unselected h = h
-taken-well byte d Control h = pointed-well byte d (well-formed-ok P.Write d h)
-taken-well byte d Data h = stored-well byte d h
-taken-well byte d Talking h = h
-taken-well byte d ResetCall h = call-well 165 byte d ResetFirst (well-formed-ok P.Write d h) refl
-taken-well byte d ResetFirst h = call-well 90 byte d ResetBoth (well-formed-ok P.Write d h) refl
-taken-well byte d ResetBoth h = well P.Write (withStage d Unselected) (ok d (well-formed-ok P.Write d h)) refl
-
-pub written-well : (byte : ℕ) (d : Device) → wellFormed P.Write d ≡ true → wellFormed P.Write (heardBy P.Write byte d) ≡ true
-unfolding heardBy takenBy
-written-well byte d h = taken-well byte d (d .stage) h
-
--- ---- a get
-
-moved-well : (d : Device) → WellIn P.Read d → WellIn P.Read (movedOn d)
-unfolding movedOn
-moved-well d h =
-    let o = ok d (well-formed-ok P.Read d h) in
-    elim (tested (isTalking (d .stage))) [
-      | holds e ↦ rw e (well P.Read (withControl d (controlMoved (d .chip) (d .control))) (record { legal = moved-legal (d .chip) (d .control) (o .legal); allowed = o .allowed; within = o .within }) (fits P.Read d h))
-      | fails e ↦ rw e h
-    ]
-
-pub gotten-well : (ack : Bool) (d : Device) → wellFormed P.Read d ≡ true → wellFormed (phaseAfterGet ack) (gottenFrom ack d) ≡ true
-unfolding gottenFrom
-gotten-well true d h = moved-well d h
-gotten-well false d h = well P.Ended (withStage (movedOn d) Unselected) (ok (movedOn d) (well-formed-ok P.Read (movedOn d) (moved-well d h))) refl
-
--- ---- STOP
-
-effect-ok : (d : Device) → recordOk d ≡ true → recordOk (effectOfStop d) ≡ true
-unfolding effectOfStop recordOk
-effect-ok d h =
-    elim (tested (isDriver (d .chip) && isAwake d)) [ holds e ↦ rw e h | fails e ↦ rw e h ]
-
-pub stopped-well : (d : Device) → recordOk d ≡ true → wellFormed P.Idle (stoppedOf d) ≡ true
-unfolding stoppedOf
-stopped-well d h =
-    elim (tested (isDriver (d .chip) && tookReset (d .stage))) [
-      | holds e ↦ rw e (reset-well P.Idle d h)
-      | fails e ↦ rw e (well P.Idle (withStage (effectOfStop d) Unselected) (ok (effectOfStop d) (effect-ok d h)) refl)
-    ]
-
--- ---- any signal that is in turn
-
-put-well : (p : Phase) (byte : ℕ) (d : Device) → takesPut p ≡ true → WellIn p d → WellIn (phaseAfterPut p byte) (heardBy p byte d)
-put-well P.Address byte d t h = addressed-well byte d (well-formed-ok P.Address d h)
-put-well P.Write byte d t h = written-well byte d h
-put-well P.Idle byte d t h = absurd (false≢true t)
-put-well P.Read byte d t h = absurd (false≢true t)
-put-well P.Ended byte d t h = absurd (false≢true t)
-
-get-well : (p : Phase) (ack : Bool) (d : Device) → isRead p ≡ true → WellIn p d → WellIn (phaseAfterGet ack) (gottenFrom ack d)
-get-well P.Read ack d t h = gotten-well ack d h
-get-well P.Idle ack d t h = absurd (false≢true t)
-get-well P.Address ack d t h = absurd (false≢true t)
-get-well P.Write ack d t h = absurd (false≢true t)
-get-well P.Ended ack d t h = absurd (false≢true t)
-
-pub signal-well : (p : Phase) (s : Signal) (d : Device) → inTurn p s ≡ true → wellFormed p d ≡ true → wellFormed (phaseAfterSignal p s) (deviceAfter p s d) ≡ true
-unfolding phaseAfterSignal deviceAfter
+-- any signal that is in turn
+pub signal-well : (p : Phase) (s : Signal) (d : Device) → inTurn p s ≡ true → wellFormed p d ≡ true → wellFormed (phaseAfterSignal p s) (afterSignal p s d) ≡ true
+unfolding phaseAfterSignal afterSignal
 signal-well p Start d t h = started-well d (well-formed-ok p d h)
 signal-well p Stop d t h = stopped-well d (well-formed-ok p d h)
 signal-well p (Put byte) d t h = put-well p byte d t h

@@ -2,8 +2,8 @@
 use Prim.Native.Nat.{ℕ}
 use mathlib.Core.Bool.{Bool, true, false}
 use Rattle.device.specs.Fields.{withStage}
-use Rattle.protocol.specs.Selection.{stageAfter}
-use Rattle.protocol.specs.Write.{takenBy, acksData}
+use Rattle.protocol.specs.Selection.{stageAfterAddress}
+use Rattle.protocol.specs.Write.{afterByte, acksData}
 use Rattle.device.specs.declared.Device.{Device}
 use Rattle.device.specs.declared.Phase.{Phase}
 use Rattle.device.specs.declared.Phase.the-variants as P
@@ -20,16 +20,16 @@ isSelected ResetFirst = true
 isSelected ResetBoth = true
 
 -- the device after the byte
-unfoldable pub heardBy : Phase → ℕ → Device → Device
-heardBy P.Address byte d = withStage d (stageAfter d byte)
-heardBy P.Write byte d = takenBy byte d
-heardBy P.Idle byte d = d
-heardBy P.Read byte d = d
-heardBy P.Ended byte d = d
+unfoldable pub afterPut : Phase → ℕ → Device → Device
+afterPut P.Address byte d = withStage d (stageAfterAddress d byte)
+afterPut P.Write byte d = afterByte byte d
+afterPut P.Idle byte d = d
+afterPut P.Read byte d = d
+afterPut P.Ended byte d = d
 
 -- whether it acknowledges the byte: the address byte by being selected
 unfoldable pub acksTo : Phase → ℕ → Device → Bool
-acksTo P.Address byte d = isSelected (stageAfter d byte)
+acksTo P.Address byte d = isSelected (stageAfterAddress d byte)
 acksTo P.Write byte d = acksData byte d
 acksTo P.Idle byte d = false
 acksTo P.Read byte d = false

@@ -36,12 +36,12 @@ pointedByte d = cond (isDriver (d .chip)) (registerByte d) (cond (eqb (pointer d
 unfoldable pub talkOf : Device → ℕ
 talkOf d = cond (isTalking (d .stage)) (pointedByte d) 255
 
-unfoldable pub movedOn : Device → Device
-movedOn d = cond (isTalking (d .stage)) (withControl d (controlMoved (d .chip) (d .control))) d
+unfoldable pub afterTalk : Device → Device
+afterTalk d = cond (isTalking (d .stage)) (withControl d (controlMoved (d .chip) (d .control))) d
 
 -- the device after the get: the pointer of one that talks has moved, and after ack 0 no device talks
-unfoldable pub gottenFrom : Bool → Device → Device
-gottenFrom ack d = cond ack (movedOn d) (withStage (movedOn d) Unselected)
+unfoldable pub afterGet : Bool → Device → Device
+afterGet ack d = cond ack (afterTalk d) (withStage (afterTalk d) Unselected)
 
 -- a get with ack 0 ends the read
 abbrev pub phaseAfterGet : Bool → Phase

@@ -13,8 +13,8 @@ use Rattle.device.specs.declared.Stage.{Stage}
 use Rattle.device.specs.declared.Stage.the-variants.{Unselected, Control, Talking, ResetCall}
 
 -- a START deselects
-abbrev pub startedOf : Device → Device
-startedOf d = withStage d Unselected
+abbrev pub afterStart : Device → Device
+afterStart d = withStage d Unselected
 
 -- a driver's own address is its hardware address; a blinker's is 1100 A2 A1 A0
 unfoldable pub ownAddress : Device → ℕ
@@ -42,11 +42,11 @@ abbrev pub callStage : Device → ℕ → Stage
 callStage d byte = cond (eqb (byte % 2) 0 && isDriver (d .chip)) ResetCall Unselected
 
 -- the stage after the address byte; address 3 is judged first
-unfoldable pub stageAfter : Device → ℕ → Stage
-stageAfter d byte =
+unfoldable pub stageAfterAddress : Device → ℕ → Stage
+stageAfterAddress d byte =
     cond (eqb (byte / 2) 3) (callStage d byte)
     (cond (answers d (byte / 2)) (cond (eqb (byte % 2) 0) Control Talking) Unselected)
 
 -- the message's direction is bit 0 of the address byte, whether or not anyone answers
-abbrev pub phaseAfter : ℕ → Phase
-phaseAfter byte = cond (eqb (byte % 2) 0) P.Write P.Read
+abbrev pub phaseAfterAddress : ℕ → Phase
+phaseAfterAddress byte = cond (eqb (byte % 2) 0) P.Write P.Read

@@ -8,7 +8,7 @@ use Rattle.chip.specs.Kinds.{isDriver, outputsOf}
 use Rattle.chip.specs.Registers.{inBuffer}
 use Rattle.device.specs.Fields.{withStage, withEffective}
 use Rattle.device.specs.Registers.{isAwake}
-use Rattle.device.specs.Reset.{resetOf}
+use Rattle.device.specs.Reset.{afterReset}
 use Rattle.device.specs.declared.Device.{Device}
 use Rattle.device.specs.declared.Stage.{Stage}
 use Rattle.device.specs.declared.Stage.the-variants.{Unselected, Control, Data, Talking, ResetCall, ResetFirst, ResetBoth}
@@ -21,8 +21,8 @@ unfoldable pub committed : ℕ → List ℕ → List ℕ → List ℕ
 committed n written effective = tabulate 28 (committedAt n written effective)
 
 -- an awake driver puts PWM0 through LEDOUT into effect, addressed or not
-unfoldable pub effectOfStop : Device → Device
-effectOfStop d =
+unfoldable pub afterCommit : Device → Device
+afterCommit d =
     cond (isDriver (d .chip) && isAwake d)
     (withEffective d (committed (outputsOf (d .chip)) (d .written) (d .effective)))
     d
@@ -37,6 +37,6 @@ tookReset ResetFirst = false
 tookReset ResetBoth = true
 
 -- a driver that took both bytes of the software reset call is reset
-unfoldable pub stoppedOf : Device → Device
-stoppedOf d =
-    cond (isDriver (d .chip) && tookReset (d .stage)) (resetOf d) (withStage (effectOfStop d) Unselected)
+unfoldable pub afterStop : Device → Device
+afterStop d =
+    cond (isDriver (d .chip) && tookReset (d .stage)) (afterReset d) (withStage (afterCommit d) Unselected)

@@ -16,8 +16,8 @@ use Rattle.device.specs.declared.Stage.the-variants.{Unselected, Control, Data,
 
 -- ---- the control byte: an illegal one is not acknowledged, the old one stays, and the device is deaf till START
 
-unfoldable pub pointedAt : ℕ → Device → Device
-pointedAt byte d = cond (controlLegal (d .chip) byte) (withControl (withStage d Data) byte) (withStage d Unselected)
+unfoldable pub afterControl : ℕ → Device → Device
+afterControl byte d = cond (controlLegal (d .chip) byte) (withControl (withStage d Data) byte) (withStage d Unselected)
 
 -- ---- a data byte: it goes into the pointed register, then the pointer moves
 
@@ -26,8 +26,8 @@ unfoldable pub newByte : ℕ → Device → ℕ
 newByte byte d = storedByte (d .chip) (pointer d) (held d (pointer d)) byte
 
 -- with OCH = 1 and awake, the byte takes effect at its acknowledge
-unfoldable pub effectiveAfter : ℕ → Device → List ℕ
-effectiveAfter byte d =
+unfoldable pub effectiveAfterData : ℕ → Device → List ℕ
+effectiveAfterData byte d =
     cond (isBuffered (d .chip) (pointer d) && isAwake d && isOch d)
     (set (d .effective) (pointer d) (newByte byte d))
     (d .effective)
@@ -36,17 +36,17 @@ effectiveAfter byte d =
 unfoldable pub wakes : ℕ → Device → Bool
 wakes byte d = isDriver (d .chip) && eqb (pointer d) mode1 && isSleep d && not (bit 4 byte)
 
-unfoldable pub countAfter : ℕ → Device → ℕ
-countAfter byte d = cond (wakes byte d) 0 (d .count)
+unfoldable pub countAfterData : ℕ → Device → ℕ
+countAfterData byte d = cond (wakes byte d) 0 (d .count)
 
-unfoldable pub storedIn : ℕ → Device → Device
-storedIn byte d =
+unfoldable pub afterData : ℕ → Device → Device
+afterData byte d =
     withControl
     (withCount
     (withEffective
     (withWritten d (set (d .written) (pointer d) (newByte byte d)))
-    (effectiveAfter byte d))
-    (countAfter byte d))
+    (effectiveAfterData byte d))
+    (countAfterData byte d))
     (controlMoved (d .chip) (d .control))
 
 -- ---- the software reset call: A5h and 5Ah are taken in that order; anything else, or a third byte, ends the call. A blinker takes no part in it
@@ -56,18 +56,18 @@ isCallByte due byte d = isDriver (d .chip) && eqb byte due
 
 -- ---- by stage
 
-abbrev pub takenAt : Stage → ℕ → Device → Device
-takenAt Unselected byte d = d
-takenAt Control byte d = pointedAt byte d
-takenAt Data byte d = storedIn byte d
-takenAt Talking byte d = d
-takenAt ResetCall byte d = withStage d (cond (isCallByte 165 byte d) ResetFirst Unselected)
-takenAt ResetFirst byte d = withStage d (cond (isCallByte 90 byte d) ResetBoth Unselected)
-takenAt ResetBoth byte d = withStage d Unselected
+abbrev pub afterByteAt : Stage → ℕ → Device → Device
+afterByteAt Unselected byte d = d
+afterByteAt Control byte d = afterControl byte d
+afterByteAt Data byte d = afterData byte d
+afterByteAt Talking byte d = d
+afterByteAt ResetCall byte d = withStage d (cond (isCallByte 165 byte d) ResetFirst Unselected)
+afterByteAt ResetFirst byte d = withStage d (cond (isCallByte 90 byte d) ResetBoth Unselected)
+afterByteAt ResetBoth byte d = withStage d Unselected
 
 -- the device after a byte of a write
-unfoldable pub takenBy : ℕ → Device → Device
-takenBy byte d = takenAt (d .stage) byte d
+unfoldable pub afterByte : ℕ → Device → Device
+afterByte byte d = afterByteAt (d .stage) byte d
 
 abbrev pub acksAt : Stage → ℕ → Device → Bool
 acksAt Unselected byte d = false

@@ -1,8 +1,8 @@
 // What one device does on the bus: at START, at each byte, at a get and at STOP.
-pub mod after;
 pub mod put;
 pub mod read;
-pub mod select;
+pub mod selection;
+pub mod signals;
 pub mod stop;
 pub mod write;
 

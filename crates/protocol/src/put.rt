@@ -3,7 +3,7 @@ use device::Device;
 use device::Phase;
 use device::Stage;
 ghost use mathlib.Core.Path.{_≡_};
-ghost use Rattle.protocol.specs.Put.{isSelected, heardBy, acksTo};
+ghost use Rattle.protocol.specs.Put.{isSelected, afterPut, acksTo};
 
 fn is_selected(stage: Stage) -> bool
     ensures { λ r. ⌜ r ≡ isSelected stage ⌝ }
@@ -20,12 +20,12 @@ fn is_selected(stage: Stage) -> bool
 }
 
 // The device after the byte.
-pub fn heard(phase: Phase, byte: u8, d: Device) -> Device
-    ensures { λ r. ⌜ r ≡ heardBy phase byte d ⌝ }
+pub fn after_put(phase: Phase, byte: u8, d: Device) -> Device
+    ensures { λ r. ⌜ r ≡ afterPut phase byte d ⌝ }
 {
     match phase {
-        Phase::Address => device::with_stage(d, crate::select::stage_after(d, byte)),
-        Phase::Write => crate::write::taken(byte, d),
+        Phase::Address => device::with_stage(d, crate::selection::stage_after_address(d, byte)),
+        Phase::Write => crate::write::after_byte(byte, d),
         Phase::Idle => d,
         Phase::Read => d,
         Phase::Ended => d,
@@ -37,7 +37,7 @@ pub fn acks(phase: Phase, byte: u8, d: Device) -> bool
     ensures { λ r. ⌜ r ≡ acksTo phase byte d ⌝ }
 {
     match phase {
-        Phase::Address => is_selected(crate::select::stage_after(d, byte)),
+        Phase::Address => is_selected(crate::selection::stage_after_address(d, byte)),
         Phase::Write => crate::write::acks(byte, d),
         Phase::Idle => false,
         Phase::Read => false,

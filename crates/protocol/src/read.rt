@@ -3,7 +3,7 @@ use device::Device;
 use device::Phase;
 use device::Stage;
 ghost use mathlib.Core.Path.{_≡_};
-ghost use Rattle.protocol.specs.Read.{isTalking, registerByte, pointedByte, talkOf, movedOn, gottenFrom, phaseAfterGet};
+ghost use Rattle.protocol.specs.Read.{isTalking, registerByte, pointedByte, talkOf, afterTalk, afterGet, phaseAfterGet};
 
 fn is_talking(stage: Stage) -> bool
     ensures { λ r. ⌜ r ≡ isTalking stage ⌝ }
@@ -35,7 +35,7 @@ fn pointed_byte(d: Device) -> u8
     let chip = d.chip;
     if chip::is_driver(chip) {
         register_byte(d)
-    } else if chip::control::register(chip, d.control) == 0 {
+    } else if chip::control::register(chip, d.control) == chip::INPUT {
         device::output::input_byte(d)
     } else {
         register_byte(d)
@@ -54,8 +54,8 @@ pub fn talk(d: Device) -> u8
     }
 }
 
-fn moved_on(d: Device) -> Device
-    ensures { λ r. ⌜ r ≡ movedOn d ⌝ }
+fn after_talk(d: Device) -> Device
+    ensures { λ r. ⌜ r ≡ afterTalk d ⌝ }
 {
     let chip = d.chip;
     let stage = d.stage;
@@ -69,18 +69,18 @@ fn moved_on(d: Device) -> Device
 }
 
 // The device after a get with the master's ack.
-pub fn gotten(ack: bool, d: Device) -> Device
-    ensures { λ r. ⌜ r ≡ gottenFrom ack d ⌝ }
+pub fn after_get(ack: bool, d: Device) -> Device
+    ensures { λ r. ⌜ r ≡ afterGet ack d ⌝ }
 {
     if ack {
-        moved_on(d)
+        after_talk(d)
     } else {
-        device::with_stage(moved_on(d), Stage::Unselected)
+        device::with_stage(after_talk(d), Stage::Unselected)
     }
 }
 
 // A get with ack 0 ends the read.
-pub fn phase_after(ack: bool) -> Phase
+pub fn phase_after_get(ack: bool) -> Phase
     ensures { λ r. ⌜ r ≡ phaseAfterGet ack ⌝ }
 {
     if ack { Phase::Read } else { Phase::Ended }

@@ -4,7 +4,7 @@ use device::Device;
 use device::Stage;
 ghost use mathlib.Core.Path.{_≡_};
 ghost use Rattle.chip.specs.Kinds.{outputsOf};
-ghost use Rattle.protocol.specs.Stop.{committed, effectOfStop, tookReset, stoppedOf};
+ghost use Rattle.protocol.specs.Stop.{committed, afterCommit, tookReset, afterStop};
 
 fn took_reset(stage: Stage) -> bool
     ensures { λ r. ⌜ r ≡ tookReset stage ⌝ }
@@ -27,7 +27,7 @@ fn committed(chip: Chip, written: [u8; 28], effective: [u8; 28]) -> [u8; 28]
     let map = chip::register_map(chip);
     let end = map.subadr1 as usize;
     let mut next = effective;
-    let mut i: usize = 2;
+    let mut i = chip::PWM0 as usize;
     while i < end {
         next[i] = written[i];
         i += 1;
@@ -35,8 +35,8 @@ fn committed(chip: Chip, written: [u8; 28], effective: [u8; 28]) -> [u8; 28]
     next
 }
 
-fn effect_of_stop(d: Device) -> Device
-    ensures { λ r. ⌜ r ≡ effectOfStop d ⌝ }
+fn after_commit(d: Device) -> Device
+    ensures { λ r. ⌜ r ≡ afterCommit d ⌝ }
 {
     let chip = d.chip;
     let written = d.written;
@@ -55,18 +55,18 @@ fn effect_of_stop(d: Device) -> Device
     }
 }
 
-pub fn stopped(d: Device) -> Device
-    ensures { λ r. ⌜ r ≡ stoppedOf d ⌝ }
+pub fn after_stop(d: Device) -> Device
+    ensures { λ r. ⌜ r ≡ afterStop d ⌝ }
 {
     let chip = d.chip;
     let stage = d.stage;
     if chip::is_driver(chip) {
         if took_reset(stage) {
-            device::reset(d)
+            device::after_reset(d)
         } else {
-            device::with_stage(effect_of_stop(d), Stage::Unselected)
+            device::with_stage(after_commit(d), Stage::Unselected)
         }
     } else {
-        device::with_stage(effect_of_stop(d), Stage::Unselected)
+        device::with_stage(after_commit(d), Stage::Unselected)
     }
 }

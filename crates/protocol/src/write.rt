@@ -7,11 +7,11 @@ ghost use Rattle.chip.specs.Registers.{isBuffered};
 ghost use Rattle.device.specs.Registers.{isAwake, isOch, pointer};
 ghost use Rattle.device.specs.Fields.{withStage};
 ghost use Rattle.device.specs.declared.Stage.the-variants.{Unselected};
-ghost use Rattle.protocol.specs.Write.{pointedAt, newByte, effectiveAfter, wakes, countAfter, storedIn, isCallByte, takenBy, acksData};
+ghost use Rattle.protocol.specs.Write.{afterControl, newByte, effectiveAfterData, wakes, countAfterData, afterData, isCallByte, afterByte, acksData};
 
 // The control byte.
-fn pointed(byte: u8, d: Device) -> Device
-    ensures { λ r. ⌜ r ≡ pointedAt byte d ⌝ }
+fn after_control(byte: u8, d: Device) -> Device
+    ensures { λ r. ⌜ r ≡ afterControl byte d ⌝ }
 {
     let chip = d.chip;
     if chip::control::is_legal(chip, byte) {
@@ -46,7 +46,7 @@ fn takes_effect(d: Device) -> bool
     let chip = d.chip;
     if chip::is_buffered(chip, register(d)) {
         if device::registers::is_awake(d) {
-            d.written[1] / 8 % 2 == 1
+            device::registers::is_och(d.written[chip::MODE2 as usize])
         } else {
             false
         }
@@ -55,8 +55,8 @@ fn takes_effect(d: Device) -> bool
     }
 }
 
-fn effective_after(byte: u8, d: Device) -> [u8; 28]
-    ensures { λ r. ⌜ r ≡ effectiveAfter byte d ⌝ }
+fn effective_after_data(byte: u8, d: Device) -> [u8; 28]
+    ensures { λ r. ⌜ r ≡ effectiveAfterData byte d ⌝ }
 {
     let effective = d.effective;
     if takes_effect(d) {
@@ -71,9 +71,9 @@ fn wakes(byte: u8, d: Device) -> bool
 {
     let chip = d.chip;
     if chip::is_driver(chip) {
-        if register(d) == 0 {
-            if d.written[0] / 16 % 2 == 1 {
-                byte / 16 % 2 != 1
+        if register(d) == chip::MODE1 as usize {
+            if device::registers::is_sleep(d.written[chip::MODE1 as usize]) {
+                !device::registers::is_sleep(byte)
             } else {
                 false
             }
@@ -85,24 +85,24 @@ fn wakes(byte: u8, d: Device) -> bool
     }
 }
 
-fn count_after(byte: u8, d: Device) -> u64
-    ensures { λ r. ⌜ r ≡ countAfter byte d ⌝ }
+fn count_after_data(byte: u8, d: Device) -> u64
+    ensures { λ r. ⌜ r ≡ countAfterData byte d ⌝ }
 {
     if wakes(byte, d) { 0 } else { d.count }
 }
 
 // A data byte.
-fn stored(byte: u8, d: Device) -> Device
-    ensures { λ r. ⌜ r ≡ storedIn byte d ⌝ }
+fn after_data(byte: u8, d: Device) -> Device
+    ensures { λ r. ⌜ r ≡ afterData byte d ⌝ }
 {
     let chip = d.chip;
     let written = d.written;
     let mut next = d;
     let stored = device::registers::with_byte(written, register(d), new_byte(byte, d));
-    let effective = effective_after(byte, d);
+    let effective = effective_after_data(byte, d);
     next.written = stored;
     next.effective = effective;
-    next.count = count_after(byte, d);
+    next.count = count_after_data(byte, d);
     next.control = chip::control::moved(chip, d.control);
     next
 }
@@ -119,7 +119,7 @@ fn is_call_byte(due: u8, byte: u8, d: Device) -> bool
     }
 }
 
-fn call_next(due: u8, byte: u8, d: Device, next: Stage) -> Device
+fn after_call_byte(due: u8, byte: u8, d: Device, next: Stage) -> Device
     ensures { λ r. ⌜ r ≡ withStage d (cond (isCallByte due byte d) next Unselected) ⌝ }
 {
     if is_call_byte(due, byte, d) {
@@ -129,17 +129,17 @@ fn call_next(due: u8, byte: u8, d: Device, next: Stage) -> Device
     }
 }
 
-pub fn taken(byte: u8, d: Device) -> Device
-    ensures { λ r. ⌜ r ≡ takenBy byte d ⌝ }
+pub fn after_byte(byte: u8, d: Device) -> Device
+    ensures { λ r. ⌜ r ≡ afterByte byte d ⌝ }
 {
     let stage = d.stage;
     match stage {
         Stage::Unselected => d,
-        Stage::Control => pointed(byte, d),
-        Stage::Data => stored(byte, d),
+        Stage::Control => after_control(byte, d),
+        Stage::Data => after_data(byte, d),
         Stage::Talking => d,
-        Stage::ResetCall => call_next(0xA5, byte, d, Stage::ResetFirst),
-        Stage::ResetFirst => call_next(0x5A, byte, d, Stage::ResetBoth),
+        Stage::ResetCall => after_call_byte(0xA5, byte, d, Stage::ResetFirst),
+        Stage::ResetFirst => after_call_byte(0x5A, byte, d, Stage::ResetBoth),
         Stage::ResetBoth => device::with_stage(d, Stage::Unselected),
     }
 }

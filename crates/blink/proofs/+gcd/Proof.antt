@@ -1,7 +1,7 @@
 -- `blink::gcd` meets its contract. The measure is b, and each call is Euclid's step.
 use mathlib.Core.Path.{_∙_}
 use native.Mathlib.Nat.{pos-of-ne-zero, mod-lt, lt-of-lt-of-le, le-of-eq}
-use Rattle.blink.specs.laws.Divisors.{gcd-none, gcd-step}
+use Rattle.basics.specs.laws.Divisors.{gcd-none, gcd-step}
 use Prim.Native.Nat.{ℕ, _<_}
 use borrow.Fn.Kinds.{In}
 use borrow.Fn.PlainCycle.{Measures, is, falls, and}

@@ -1,8 +1,8 @@
 -- `blink::lcm` meets its contract. Nothing wraps, since the least common multiple is at most a * b.
 use mathlib.Core.Path.{refl}
 use native.Mathlib.Omega.{arith}
-use Rattle.blink.specs.Start.{lcmOf}
-use Rattle.blink.specs.laws.Divisors.{gcd-pos, lcm-le}
+use Rattle.basics.specs.Divisors.{lcmOf}
+use Rattle.basics.specs.laws.Divisors.{gcd-pos, lcm-le}
 use borrow.Author.Needs.{needs}
 use Rattle.blink.proofs.lcm.Statement.{statement}
 use Rattle.blink.proofs.lcm.Tie as tie

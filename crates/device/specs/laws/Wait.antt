@@ -1,23 +1,18 @@
 -- Laws of time: a count after a wait, and a bare number in the device's own unit.
-use mathlib.Core.Path.{_≡_, refl, sym, _∙_}
+use mathlib.Core.Path.{_≡_, sym, _∙_}
 use mathlib.Core.Bool.{Bool, true, false}
-use Prim.Native.Nat.{ℕ, _+_, _^_, _<_}
-use native.Mathlib.Omega.{arith}
+use Prim.Native.Nat.{ℕ, _+_}
 use lib.Dec.{leb}
-use borrow.Author.Tests.{leb-true}
+use Rattle.basics.specs.laws.Logic.{tested, holds, fails}
 use Rattle.lamp.specs.Window.{countLimit}
 use Rattle.lamp.specs.Duration.{amount}
 use Rattle.chip.specs.Kinds.{isDriver}
-use Rattle.basics.specs.laws.Logic.{tested, holds, fails}
 use Rattle.chip.specs.declared.Chip.{Chip}
-use Rattle.device.specs.Wait.{overruns, advanced, waitedOf, isOwn, ownDuration, overrunsFor, waitedFor}
+use Rattle.device.specs.Wait.{overruns, advanced, afterWait, isOwn, ownDuration, overrunsFor, afterWaitFor}
 use Rattle.device.specs.declared.Device.{Device}
 
 -- a count advances where the test of the limit holds, and stays where not
 module _ (t w : ℕ) (b : Bool) (e : b ≡ leb (t + w) countLimit) where
-  pub within-fits : b ≡ true → t + w < 2 ^ 64
-  within-fits h = omega (arith, leb-true (t + w) countLimit (sym e ∙ h))
-
   pub within-advanced : b ≡ true → t + w ≡ advanced t w
   unfolding advanced
   within-advanced h = rw (sym e ∙ h)
@@ -25,6 +20,12 @@ module _ (t w : ℕ) (b : Bool) (e : b ≡ leb (t + w) countLimit) where
   pub beyond-stays : b ≡ false → t ≡ advanced t w
   unfolding advanced
   beyond-stays h = rw (sym e ∙ h)
+
+-- a count within the limit stays within it
+pub advanced-within : (t w : ℕ) → leb t countLimit ≡ true → leb (advanced t w) countLimit ≡ true
+unfolding advanced
+advanced-within t w h =
+    elim (tested (leb (t + w) countLimit)) [ holds e ↦ rw (e, e) | fails e ↦ rw e h ]
 
 -- a bare number in a chip's own unit is in its own unit, and is that number
 pub own-is-own : (chip : Chip) (n : ℕ) → isOwn chip (ownDuration chip n) ≡ true
@@ -38,5 +39,5 @@ module _ (d : Device) (n : ℕ) where
   pub bare-overruns : overrunsFor d (ownDuration (d .chip) n) ≡ overruns d n
   bare-overruns = rw (own-is-own (d .chip) n, own-amount (d .chip) n)
 
-  pub bare-waited : waitedFor d (ownDuration (d .chip) n) ≡ waitedOf d n
+  pub bare-waited : afterWaitFor d (ownDuration (d .chip) n) ≡ afterWait d n
   bare-waited = rw (own-is-own (d .chip) n, own-amount (d .chip) n)

@@ -3,10 +3,10 @@ use mathlib.Core.Path.{_≡_, refl}
 use mathlib.Core.Bool.{true, _&&_}
 use Prim.Native.Nat.{ℕ}
 use lib.Dec.{leb}
+use Rattle.basics.specs.laws.Logic.{and-left, and-right}
 use Rattle.lamp.specs.Window.{countLimit}
 use Rattle.chip.specs.Addresses.{addressAllowed}
 use Rattle.chip.specs.Control.{controlLegal}
-use Rattle.basics.specs.laws.Logic.{and-left, and-right}
 use Rattle.chip.specs.declared.Chip.{Chip}
 use Rattle.device.specs.WellFormed.{recordOk, stageFits, wellFormed}
 use Rattle.device.specs.declared.Device.{Device}

@@ -1,16 +1,12 @@
 -- Group blinking, whose period P is in general no multiple of 256: its lit ticks are counted by blink periods, and start again after 256 of them.
 use mathlib.Core.Path.{_≡_, refl, sym}
 use Prim.Native.Nat.{ℕ, zero, suc, min, _+_, _*_, _/_, _%_, _≤_, _<_}
-use native.Mathlib.Nat.{le-of-lt, zero-min, min-eq-right, mul-le-mul-right, mod-lt, div-add-mod', mod-mod-of-dvd, dvd-mul-right, dvd-mul-left}
+use native.Mathlib.Nat.{le-of-lt, zero-min, min-eq-right, mod-lt, div-add-mod', mod-mod-of-dvd, dvd-mul-right, dvd-mul-left}
 use native.Mathlib.Omega.{arith}
 use lib.Arith.{digits-mod}
 use Rattle.lamp.specs.Window.{litTicks}
 use Rattle.lamp.specs.Driver.{individual, grouped}
 use Rattle.lamp.specs.laws.Count.{from, prefix, same, gate, cycle, from-zero, window}
-
--- each whole period among the first x ticks ends by x
-pub period-ends : (P x j : ℕ) → j < x / P → (j + 1) * P ≤ x
-period-ends P x j h = omega (arith, mul-le-mul-right P h, div-add-mod' x P)
 
 module _ (P L N : ℕ) where
   -- the first r ticks of the blink period j are lit as brightness N alone is, up to tick L of the period

@@ -3,12 +3,14 @@
 use mathlib.Core.Path.{_≡_, refl, sym, ap, _∙_}
 use mathlib.Core.Logic.{_⊎_, inl, inr}
 use mathlib.Core.Bool.{Bool, true, false, not, _&&_, and-true, and-false}
-use Prim.Native.Nat.{ℕ, zero, suc, min, _+_, _-_, _*_, _/_, _%_, _≤_, _<_}
+use Prim.Native.Nat.{ℕ, zero, suc, min, _+_, _-_, _*_, _/_, _%_, _^_, _≤_, _<_}
 use native.Mathlib.Nat.{le-of-lt, le-step, zero-min, zero-div, zero-mod, zero-add, add-suc, add-zero, mod-lt, div-add-mod', mod-mod-of-dvd, dvd-of-mod-eq-zero, min-eq-left, min-eq-right, mul-le-mul-right, eq-or-lt-of-le}
 use native.Mathlib.Omega.{arith}
 use lib.Dec.{ltb, leb, lit<}
-use lib.Arith.{digits-lt, digits-div, digits-mod, mod-mul}
-use borrow.Author.Tests.{lt-ltb, le-ltb, le-leb, lt-leb, ltb-true, ltb-false}
+use lib.Arith.{digits-lt, mod-mul}
+use borrow.Author.Tests.{lt-ltb, le-ltb, le-leb, lt-leb, leb-true, ltb-true, ltb-false}
+use Rattle.basics.specs.laws.Division.{div-mod-of}
+use Rattle.basics.specs.laws.Logic.{tested, holds, fails}
 use Rattle.lamp.specs.Window.{oneIf, litTicks, countLimit, countedTicks}
 use Rattle.lamp.specs.Driver.{individual, grouped, dimmed}
 use Rattle.lamp.specs.Blinker.{stepCount, litBelow, litFrom}
@@ -60,10 +62,23 @@ same C e = record { start = C .start; step = λ x. rw (e x) (C .step x) }
 pub prefix : (lit : ℕ → Bool) → Counts lit (litTicks lit 0)
 prefix lit = same (from lit 0) (λ x. rw (zero-add x))
 
--- the lit ticks of a window that ends by the limit
-pub counted : (lit : ℕ → Bool) (t w : ℕ) → leb (t + w) countLimit ≡ true → litTicks lit 0 (t + w) - litTicks lit 0 t ≡ countedTicks lit t w
-unfolding countedTicks
-counted lit t w e = rw e (omega (arith, window (prefix lit) t w))
+-- no later tick lowers a count
+pub grows : (lit : ℕ → Bool) (t w : ℕ) → litTicks lit 0 t ≤ litTicks lit 0 (t + w)
+grows lit t w = omega (arith, window (prefix lit) t w)
+
+-- the lit ticks of a window where the test of the limit holds, and where not
+module _ (lit : ℕ → Bool) (t w : ℕ) (b : Bool) (e : b ≡ leb (t + w) countLimit) where
+  pub within-counted : b ≡ true → litTicks lit 0 (t + w) - litTicks lit 0 t ≡ countedTicks lit t w
+  unfolding countedTicks
+  within-counted h = rw (sym e ∙ h) (omega (arith, window (prefix lit) t w))
+
+  pub beyond-none : b ≡ false → 0 ≡ countedTicks lit t w
+  unfolding countedTicks
+  beyond-none h = rw (sym e ∙ h)
+
+-- the end of a window that ends by the limit fits
+pub within-fits : (t w : ℕ) (b : Bool) → b ≡ leb (t + w) countLimit → b ≡ true → t + w < 2 ^ 64
+within-fits t w b e h = omega (arith, leb-true (t + w) countLimit (sym e ∙ h))
 
 -- the other ticks
 opposite : {lit lit′ : ℕ → Bool} {F : ℕ → ℕ} → Counts lit F → ((x : ℕ) → lit′ x ≡ not (lit x)) → Counts lit′ (λ x. x - F x)
@@ -75,19 +90,13 @@ opposite {lit} C e = record { start = omega arith; step = λ x. rw (e x) (omega 
 
 -- only the ticks before L
 pub gate : {lit : ℕ → Bool} {F : ℕ → ℕ} (L : ℕ) → Counts lit F → Counts (λ x. lit x && ltb x L) (λ x. F (min x L))
-gate {lit} {F} L C = record { start = rw zero-min (C .start); step = λ x. go x (ltb x L) refl }
+gate {lit} {F} L C = record { start = rw zero-min (C .start); step = next }
   where
-    go : (x : ℕ) (b : Bool) → ltb x L ≡ b → F (min (suc x) L) ≡ F (min x L) + oneIf (lit x && ltb x L)
-    go x true e =
-        let h : suc x ≤ L = ltb-true x L e in
-        rw (e, and-true, min-eq-left h, min-eq-left (le-of-lt h)) (C .step x)
-    go x false e =
-        let h : L ≤ x = ltb-false x L e in
-        rw (e, and-false, min-eq-right h, min-eq-right (le-step h)) (omega arith)
-
--- a number's quotient and remainder are those that make it up
-place : (q : ℕ) {P r x : ℕ} → r < P → x ≡ q * P + r → (x / P ≡ q) × (x % P ≡ r)
-place q h e = (rw e (digits-div q h), rw e (digits-mod q h))
+    next : (x : ℕ) → F (min (suc x) L) ≡ F (min x L) + oneIf (lit x && ltb x L)
+    next x = elim (tested (ltb x L)) [
+      | holds e ↦ rw (e, and-true, min-eq-left (ltb-true x L e), min-eq-left (le-of-lt (ltb-true x L e))) (C .step x)
+      | fails e ↦ rw (e, and-false, min-eq-right (ltb-false x L e), min-eq-right (le-step (ltb-false x L e))) (omega arith)
+    ]
 
 -- the first P ticks, again and again
 pub cycle : {lit : ℕ → Bool} {F : ℕ → ℕ} (P : ℕ) {c : ℕ} → 0 < P → Counts lit F → F P ≡ c → Counts (λ x. lit (x % P)) (λ x. x / P * c + F (x % P))
@@ -95,10 +104,10 @@ cycle {lit} {F} P {c} pos C e = record { start = rw (zero-div, zero-mod) (omega 
   where
     go : (x : ℕ) → (suc (x % P) ≡ P) ⊎ (suc (x % P) < P) → suc x / P * c + F (suc x % P) ≡ x / P * c + F (x % P) + oneIf (lit (x % P))
     go x (inl k) =
-        let p : (suc x / P ≡ suc (x / P)) × (suc x % P ≡ 0) = place (suc (x / P)) pos (omega (arith, div-add-mod' x P)) in
+        let p : (suc x / P ≡ suc (x / P)) × (suc x % P ≡ 0) = div-mod-of (suc (x / P)) pos (omega (arith, div-add-mod' x P)) in
         rw (p .0, p .1) (omega (arith, C .start, C .step (x % P), ap F k, e))
     go x (inr k) =
-        let p : (suc x / P ≡ x / P) × (suc x % P ≡ suc (x % P)) = place (x / P) k (omega (arith, div-add-mod' x P)) in
+        let p : (suc x / P ≡ x / P) × (suc x % P ≡ suc (x % P)) = div-mod-of (x / P) k (omega (arith, div-add-mod' x P)) in
         rw (p .0, p .1) (omega (arith, C .step (x % P)))
 
 -- ---- the closed forms
@@ -113,7 +122,7 @@ duty-counts {P} {L} pos h = cycle P pos (gate L every) (min-eq-right h)
 
 pub duty-at : (L q : ℕ) {P r x : ℕ} → r < P → x ≡ q * P + r → dutyCount P L x ≡ q * L + min r L
 unfolding dutyCount
-duty-at L q h e = rw (place q h e .0, place q h e .1) refl
+duty-at L q h e = rw (div-mod-of q h e .0, div-mod-of q h e .1) refl
 
 pub individual-counts : {N : ℕ} → N ≤ 256 → Counts (individual N) (dutyCount 256 N)
 unfolding individual
@@ -134,15 +143,16 @@ dimmed-counts hM hN = group-counts (lit< tt) refl (omega arith) (le-of-lt hN)
 
 pub group-at : (L N q : ℕ) {P r x : ℕ} → r < P → x ≡ q * P + r → groupCount P L N x ≡ q * dutyCount 256 N L + dutyCount 256 N (min r L)
 unfolding groupCount
-group-at L N q h e = rw (place q h e .0, place q h e .1) refl
+group-at L N q h e = rw (div-mod-of q h e .0, div-mod-of q h e .1) refl
 
 -- a blinker's duty in ticks: the prescaler makes one step of q ticks, and 256 steps are the period
 below-is : (q D x : ℕ) → 0 < q → ltb (x / q % 256) D ≡ ltb (x % (256 * q)) (D * q)
-below-is q D x pos = rw (mod-mul x (lit< tt) pos) (go (ltb (x / q % 256) D) refl)
-  where
-    go : (b : Bool) → ltb (x / q % 256) D ≡ b → ltb (x / q % 256) D ≡ ltb (x / q % 256 * q + x % q) (D * q)
-    go true e = e ∙ sym (lt-ltb (x / q % 256 * q + x % q) (D * q) (digits-lt (ltb-true (x / q % 256) D e) (mod-lt x pos)))
-    go false e = e ∙ sym (le-ltb (x / q % 256 * q + x % q) (D * q) (omega (arith, mul-le-mul-right q (ltb-false (x / q % 256) D e))))
+below-is q D x pos =
+    let c = x / q % 256 in
+    rw (mod-mul x (lit< tt) pos) (elim (tested (ltb c D)) [
+      | holds e ↦ e ∙ sym (lt-ltb (c * q + x % q) (D * q) (digits-lt (ltb-true c D e) (mod-lt x pos)))
+      | fails e ↦ e ∙ sym (le-ltb (c * q + x % q) (D * q) (omega (arith, mul-le-mul-right q (ltb-false c D e))))
+    ])
 
 pub below-counts : (S D : ℕ) → D ≤ 256 → Counts (litBelow S D) (dutyCount (256 * (S + 1)) (D * (S + 1)))
 unfolding litBelow
@@ -152,8 +162,10 @@ below-counts S D h =
 -- the PCA9551 is lit where the PCA9531 is not
 pub from-counts : (S D : ℕ) → Counts (litFrom S D) (λ x. x - litTicks (litBelow S D) 0 x)
 unfolding litBelow litFrom
-from-counts S D = opposite (prefix (litBelow S D)) (λ x. go (stepCount S x) (ltb (stepCount S x) D) refl)
+from-counts S D = opposite (prefix (litBelow S D)) (λ x. rest (stepCount S x))
   where
-    go : (a : ℕ) (b : Bool) → ltb a D ≡ b → leb D a ≡ not (ltb a D)
-    go a true e = rw e (lt-leb D a (ltb-true a D e))
-    go a false e = rw e (le-leb D a (ltb-false a D e))
+    rest : (a : ℕ) → leb D a ≡ not (ltb a D)
+    rest a = elim (tested (ltb a D)) [
+      | holds e ↦ rw e (lt-leb D a (ltb-true a D e))
+      | fails e ↦ rw e (le-leb D a (ltb-false a D e))
+    ]

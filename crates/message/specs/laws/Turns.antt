@@ -11,9 +11,9 @@ use Rattle.basics.specs.laws.Logic.{and-left, and-right}
 use Rattle.device.specs.WellFormed.{isRead}
 use Rattle.device.specs.declared.Phase.{Phase}
 use Rattle.device.specs.declared.Phase.the-variants as P
-use Rattle.protocol.specs.Selection.{phaseAfter}
+use Rattle.protocol.specs.Selection.{phaseAfterAddress}
 use Rattle.protocol.specs.Read.{phaseAfterGet}
-use Rattle.protocol.specs.Signal.{takesPut, isOpen, phaseAfterPut, phaseAfterSignal}
+use Rattle.protocol.specs.Signals.{takesPut, isOpen, phaseAfterPut, phaseAfterSignal}
 use Rattle.basics.specs.First.{all}
 use Rattle.bus.specs.Refusals.{codeOf}
 use Rattle.bus.specs.Bus.{busOk}
@@ -85,7 +85,7 @@ all-gets-turn (suc k) h =
     (gets-turn (suc k) k (Get (ackAt (suc k) k) ∷ Stop ∷ []) (omega arith) (rw (le-ltb (k + 1) (suc k) (omega arith)) (get {ack = 0} refl (omega arith) (stop refl none))))
 
 -- an address byte, for a write and for a read
-address-turn : (byte : ℕ) (l : List Event) → byte < 256 → Turns (phaseAfter byte) l → Turns P.Address (Put byte ∷ l)
+address-turn : (byte : ℕ) (l : List Event) → byte < 256 → Turns (phaseAfterAddress byte) l → Turns P.Address (Put byte ∷ l)
 address-turn byte l h t = put {p = P.Address} refl h t
 
 write-turn : (address : ℕ) (l : List Event) → address ≤ 127 → Turns P.Write l → Turns P.Address (Put (2 * address) ∷ l)

@@ -29,7 +29,7 @@ returns-3 c = simp (c .with-levels .ensures, c .before .before .change3 .given .
 
 returns-4 : tie.Need-returns-4
 unfolding afterChange
-returns-4 c = simp (c .reset .ensures, c .before .enum-told .given .1)
+returns-4 c = simp (c .after-reset .ensures, c .before .enum-told .given .1)
 
 pub after-change-spec : {M : Type 1} → statement M
 after-change-spec = tie.close (tie.spec (λ c. search needs) (λ c κs. search needs) (λ c κs. search needs) (λ c. search needs) (λ c κs. search needs) (λ c. search needs) cast-with-levels (λ c κs. search needs) (λ c. search needs) (λ c κs. search needs) returns returns-2 returns-3 returns-4)

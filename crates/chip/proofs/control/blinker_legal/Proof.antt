@@ -1,3 +1,4 @@
+-- `chip::control::blinker_legal` meets its contract, bit field by bit field.
 use borrow.Author.Tests.{eq-eqb, ne-eqb}
 use Rattle.chip.proofs.control.blinker_legal.Statement.{statement}
 use Rattle.chip.proofs.control.blinker_legal.Tie as tie

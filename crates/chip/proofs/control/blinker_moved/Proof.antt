@@ -1,3 +1,4 @@
+-- `chip::control::blinker_moved` meets its contract: with auto-increment off, at the last register, and before it.
 use borrow.Author.Tests.{eq-eqb, le-leb, lt-leb, ne-eqb}
 use borrow.Author.Needs.{needs}
 use Rattle.chip.proofs.control.blinker_moved.Statement.{statement}

@@ -1,3 +1,4 @@
+-- `chip::control::driver_legal` meets its contract: an option is at most 7, being three bits of a byte.
 use Prim.Native.Nat.{_/_}
 use native.Mathlib.Omega.{arith}
 use borrow.Author.Tests.{eq-eqb, le-leb, lt-leb, ne-eqb}

@@ -1,6 +1,7 @@
+-- `chip::control::driver_moved` meets its contract: the next register has five bits, so the option stays.
 use Prim.Native.Nat.{_/_, _%_}
 use native.Mathlib.Omega.{arith}
-use Rattle.chip.proofs.Laws.{next-register-below}
+use Rattle.chip.specs.laws.Control.{next-register-below}
 use borrow.Author.Tests.{eq-eqb, ne-eqb}
 use borrow.Author.Needs.{needs}
 use Rattle.chip.proofs.control.driver_moved.Statement.{statement}

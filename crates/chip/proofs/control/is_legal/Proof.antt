@@ -1,3 +1,4 @@
+-- `chip::control::is_legal` meets its contract, by kind.
 use Rattle.chip.specs.Control.{controlLegal}
 use mathlib.Core.Path.{sym, _∙_}
 use borrow.Author.Needs.{needs}

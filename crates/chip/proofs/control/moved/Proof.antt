@@ -1,3 +1,4 @@
+-- `chip::control::moved` meets its contract, by kind.
 use Rattle.chip.specs.Control.{controlMoved}
 use mathlib.Core.Path.{sym, _∙_}
 use borrow.Author.Needs.{needs}

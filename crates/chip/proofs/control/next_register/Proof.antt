@@ -1,3 +1,4 @@
+-- `chip::control::next_register` meets its contract: at the last register of the option, at the last of the chip, and before it.
 use mathlib.Core.Path.{sym, _∙_}
 use borrow.Author.Tests.{eq-eqb, le-leb, lt-leb, ne-eqb}
 use borrow.Author.Needs.{needs}

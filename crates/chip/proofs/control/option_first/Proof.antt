@@ -1,3 +1,4 @@
+-- `chip::control::option_first` meets its contract, option by option.
 use borrow.Author.Tests.{ne-eqb}
 use borrow.Author.Needs.{needs}
 use Rattle.chip.proofs.control.option_first.Statement.{statement}

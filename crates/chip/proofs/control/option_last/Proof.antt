@@ -1,3 +1,4 @@
+-- `chip::control::option_last` meets its contract, option by option.
 use native.Mathlib.Omega.{arith}
 use borrow.Author.Tests.{ne-eqb}
 use borrow.Author.Needs.{needs}

@@ -1,3 +1,4 @@
+-- `chip::control::register` meets its contract, by kind.
 use mathlib.Core.Path.{sym, _∙_}
 use Rattle.chip.specs.Registers.{pointed}
 use borrow.Author.Needs.{needs}

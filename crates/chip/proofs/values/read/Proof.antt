@@ -1,3 +1,4 @@
+-- `chip::values::read` meets its contract: MODE1 with the option of the control byte, any other register by its bits that can be written.
 use mathlib.Core.Path.{sym, _∙_}
 use borrow.Author.Tests.{eq-eqb, ne-eqb}
 use Rattle.chip.specs.Values.{readByte}
@@ -11,7 +12,9 @@ returns c = simp (eq-eqb _ _ (sym (c .before .register .ensures) ∙ c .if2 .tak
 
 returns-2 : tie.Need-returns-2
 unfolding readByte
-returns-2 c = simp (c .writable-bits .ensures, c .before .before .register .ensures, ne-eqb _ _ (λ e. c .before .if2 .left (c .before .before .register .ensures ∙ e)), sym (c .before .before .before .before .is-driver .ensures) ∙ c .before .before .before .if1 .taken)
+returns-2 c =
+    let t = c .before .before in
+    simp (c .writable-bits .ensures, t .register .ensures, ne-eqb _ _ (λ e. c .before .if2 .left (t .register .ensures ∙ e)), sym (t .before .before .is-driver .ensures) ∙ t .before .if1 .taken)
 
 returns-3 : tie.Need-returns-3
 unfolding readByte

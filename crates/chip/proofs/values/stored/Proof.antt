@@ -1,3 +1,4 @@
+-- `chip::values::stored` meets its contract: of a driver the bits that can be written, of a blinker all but INPUT.
 use Rattle.chip.specs.Values.{storedByte}
 use mathlib.Core.Path.{sym, _∙_}
 use borrow.Author.Tests.{eq-eqb, ne-eqb}

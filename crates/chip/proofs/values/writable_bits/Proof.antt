@@ -1,3 +1,4 @@
+-- `chip::values::writable_bits` meets its contract, register by register.
 use borrow.Author.Tests.{eq-eqb, le-leb, lt-leb, ne-eqb}
 use borrow.Author.Needs.{needs}
 use Rattle.chip.proofs.values.writable_bits.Statement.{statement}

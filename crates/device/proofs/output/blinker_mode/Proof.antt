@@ -1,3 +1,4 @@
+-- `device::output::blinker_mode` meets its contract, chip by chip.
 use borrow.Author.Needs.{needs}
 use Rattle.device.proofs.output.blinker_mode.Statement.{statement}
 use Rattle.device.proofs.output.blinker_mode.Tie as tie

@@ -7,15 +7,21 @@ use Rattle.device.proofs.output.driver_lit.Tie as tie
 
 returns : tie.Need-returns
 unfolding lampLit litOf
-returns c = simp (c .driver-lit-ticks .ensures, c .before .driver-output .ensures, sym (c .before .before .before .is-awake .ensures) ∙ c .before .before .if2 .taken, sym (c .before .before .before .before .before .is-driver .ensures) ∙ c .before .before .before .before .if1 .taken)
+returns c =
+    let t = c .before .before in
+    simp (c .driver-lit-ticks .ensures, c .before .driver-output .ensures, sym (t .before .is-awake .ensures) ∙ t .if2 .taken, sym (t .before .before .before .is-driver .ensures) ∙ t .before .before .if1 .taken)
 
 returns-2 : tie.Need-returns-2
 unfolding litOf
-returns-2 c = simp (sym (c .before .is-lit .ensures) ∙ c .if3 .taken, sym (c .before .before .before .is-awake .ensures) ∙ c .before .before .if2 .left, sym (c .before .before .before .before .before .is-driver .ensures) ∙ c .before .before .before .before .if1 .taken)
+returns-2 c =
+    let t = c .before .before in
+    simp (sym (c .before .is-lit .ensures) ∙ c .if3 .taken, sym (t .before .is-awake .ensures) ∙ t .if2 .left, sym (t .before .before .before .is-driver .ensures) ∙ t .before .before .if1 .taken)
 
 returns-3 : tie.Need-returns-3
 unfolding litOf
-returns-3 c = simp (sym (c .before .is-lit .ensures) ∙ c .if3 .left, sym (c .before .before .before .is-awake .ensures) ∙ c .before .before .if2 .left, sym (c .before .before .before .before .before .is-driver .ensures) ∙ c .before .before .before .before .if1 .taken)
+returns-3 c =
+    let t = c .before .before in
+    simp (sym (c .before .is-lit .ensures) ∙ c .if3 .left, sym (t .before .is-awake .ensures) ∙ t .if2 .left, sym (t .before .before .before .is-driver .ensures) ∙ t .before .before .if1 .taken)
 
 pub driver-lit-spec : {M : Type 1} → statement M
 driver-lit-spec =

@@ -1,3 +1,4 @@
+-- `device::output::driver_output` meets its contract: each register that the mode looks at, in effect.
 use Rattle.device.specs.Output.{driverOutput}
 use borrow.Author.Needs.{needs}
 use Rattle.device.proofs.output.driver_output.Statement.{statement}
@@ -5,7 +6,10 @@ use Rattle.device.proofs.output.driver_output.Tie as tie
 
 returns : tie.Need-returns
 unfolding driverOutput
-returns c = simp (c .driver-mode .ensures, c .before .before .in-effect4 .ensures, c .before .before .before .before .in-effect3 .ensures, c .before .before .before .before .before .before .in-effect2 .ensures, c .before .before .before .before .before .before .before .pair .ensures, c .before .before .before .before .before .before .before .before .in-effect .ensures, c .before .before .before .before .before .before .before .before .before .before .register-map .ensures)
+returns c =
+    let d = c .before .before .before in
+    let b = d .before .before .before .before in
+    simp (c .driver-mode .ensures, c .before .is-blinking .ensures, d .in-effect4 .ensures, d .before .before .in-effect3 .ensures, b .in-effect2 .ensures, b .before .pair .ensures, b .before .before .in-effect .ensures, b .before .before .before .before .register-map .ensures)
 
 pub driver-output-spec : {M : Type 1} → statement M
 driver-output-spec =
@@ -17,11 +21,14 @@ driver-output-spec =
     (λ c κs. search needs)
     (λ c κs. search needs)
     (λ c. search needs)
-    (λ c κs. search needs)
     (λ c. search needs)
     (λ c κs. search needs)
     (λ c. search needs)
     (λ c κs. search needs)
     (λ c. search needs)
+    (λ c κs. search needs)
+    (λ c. search needs)
+    (λ c. search needs)
+    (λ c κs. search needs)
     (λ c κs. search needs)
     returns)

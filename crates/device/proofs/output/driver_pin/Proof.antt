@@ -1,4 +1,5 @@
-use borrow.Author.Tests.{eq-eqb, ne-eqb}
+-- `device::output::driver_pin` meets its contract: by OE, INVRT and whether the output is lit.
+use mathlib.Core.Path.{sym, _∙_}
 use borrow.Author.Needs.{needs}
 use Rattle.device.proofs.output.driver_pin.Statement.{statement}
 use Rattle.device.proofs.output.driver_pin.Tie as tie
@@ -7,16 +8,24 @@ returns : tie.Need-returns
 returns c = simp (c .disabled-pin .ensures, c .before .if1 .taken)
 
 returns-2 : tie.Need-returns-2
-returns-2 c = simp (c .undriven .ensures, c .before .if3 .taken, eq-eqb _ _ (c .before .before .if2 .taken), c .before .before .before .before .if1 .left)
+returns-2 c =
+    let t = c .before .before in
+    simp (c .undriven .ensures, c .before .if3 .taken, sym (t .before .is-inverted .ensures) ∙ t .if2 .taken, t .before .before .before .if1 .left)
 
 returns-3 : tie.Need-returns-3
-returns-3 c = simp (c .if3 .left, eq-eqb _ _ (c .before .if2 .taken), c .before .before .before .if1 .left)
+returns-3 c =
+    let t = c .before in
+    simp (c .if3 .left, sym (t .before .is-inverted .ensures) ∙ t .if2 .taken, t .before .before .before .if1 .left)
 
 returns-4 : tie.Need-returns-4
-returns-4 c = simp (c .if4 .taken, ne-eqb _ _ (c .before .if2 .left), c .before .before .before .if1 .left)
+returns-4 c =
+    let t = c .before in
+    simp (c .if4 .taken, sym (t .before .is-inverted .ensures) ∙ t .if2 .left, t .before .before .before .if1 .left)
 
 returns-5 : tie.Need-returns-5
-returns-5 c = simp (c .undriven2 .ensures, c .before .if4 .left, ne-eqb _ _ (c .before .before .if2 .left), c .before .before .before .before .if1 .left)
+returns-5 c =
+    let t = c .before .before in
+    simp (c .undriven2 .ensures, c .before .if4 .left, sym (t .before .is-inverted .ensures) ∙ t .if2 .left, t .before .before .before .if1 .left)
 
 pub driver-pin-spec : {M : Type 1} → statement M
 driver-pin-spec =
@@ -24,6 +33,8 @@ driver-pin-spec =
     (tie.spec
     (λ c κs. search needs)
     (λ c. search needs)
+    (λ c. search needs)
+    (λ c κs. search needs)
     (λ c κs. search needs)
     (λ c κs. search needs)
     returns

@@ -1,3 +1,4 @@
+-- `device::output::input_byte` meets its contract. The loop's invariant: `byte` is the set of the inputs below i that are 1, and `weight` the weight of the next. The measure is the number of inputs left.
 use borrow.Author.Needs.{needs}
 use mathlib.Core.Path.{_≡_, refl, sym, ap}
 use Prim.Native.Nat.{ℕ, _-_, _^_, _≤_, _<_}
@@ -5,10 +6,10 @@ use native.Mathlib.Omega.{arith}
 use lib.Dec.{eqb}
 use lib.ListN.{getD}
 use borrow.Author.Tests.{eqb-true}
-use Rattle.basics.specs.laws.Table.{at}
 use Rattle.basics.specs.Bits.{maskFirst}
-use Rattle.device.specs.Output.{inputBit, blinkerOutputs, inputByte}
 use Rattle.basics.specs.laws.Bits.{mask-none, mask-more, mask-done, mask-room, mask-byte, weight-more, weight-most}
+use Rattle.basics.specs.laws.Table.{at}
+use Rattle.device.specs.Output.{inputBit, blinkerOutputs, inputByte}
 use Rattle.device.proofs.output.input_byte.Statement.{statement}
 use Rattle.device.proofs.output.input_byte.Tie as tie
 
@@ -23,9 +24,6 @@ abbrev μ-loop : tie.MeasureT-loop
 
 loop-holds : tie.Need-loop-holds Inv-loop μ-loop
 loop-holds c = (search needs, search needs, mask-none _ _)
-
-input-weight-requires : tie.Need-input-weight-requires Inv-loop μ-loop
-input-weight-requires c κs = c .before .loop .inv .1
 
 add-byte : tie.Need-add-byte Inv-loop μ-loop
 add-byte c =
@@ -68,7 +66,7 @@ input-byte-spec =
     Inv-loop
     μ-loop
     loop-holds
-    input-weight-requires
+    (λ c κs. search needs)
     add-byte
     add-weight
     (λ c. search needs)

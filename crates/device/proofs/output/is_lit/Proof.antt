@@ -1,3 +1,4 @@
+-- `device::output::is_lit` meets its contract, by kind.
 use Rattle.device.specs.Output.{lampLit}
 use mathlib.Core.Path.{sym, _∙_}
 use borrow.Author.Needs.{needs}

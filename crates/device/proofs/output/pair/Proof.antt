@@ -1,3 +1,4 @@
+-- `device::output::pair` meets its contract: the place of the output among four says the power of 4.
 use mathlib.Core.Path.{_≡_}
 use Prim.Native.Nat.{_%_}
 use native.Mathlib.Omega.{arith}

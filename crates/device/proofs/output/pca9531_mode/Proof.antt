@@ -1,3 +1,4 @@
+-- `device::output::pca9531_mode` meets its contract, by the LS bits.
 use borrow.Author.Tests.{ne-eqb}
 use Rattle.device.proofs.output.pca9531_mode.Statement.{statement}
 use Rattle.device.proofs.output.pca9531_mode.Tie as tie

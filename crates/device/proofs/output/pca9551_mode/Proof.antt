@@ -1,3 +1,4 @@
+-- `device::output::pca9551_mode` meets its contract, by the LS bits.
 use borrow.Author.Tests.{ne-eqb}
 use Rattle.device.proofs.output.pca9551_mode.Statement.{statement}
 use Rattle.device.proofs.output.pca9551_mode.Tie as tie

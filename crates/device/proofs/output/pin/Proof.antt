@@ -1,3 +1,4 @@
+-- `device::output::pin` meets its contract, by kind, and a blinker's by whether the output is lit.
 use mathlib.Core.Path.{sym, _∙_}
 use Rattle.device.specs.Output.{pinOf}
 use borrow.Author.Needs.{needs}

@@ -1,3 +1,4 @@
+-- `device::registers::at` meets its contract: past the last register there is 0.
 use lib.ListN.{List·getD-eq-default}
 use borrow.Author.Needs.{needs}
 use Rattle.device.proofs.registers.at.Statement.{statement}

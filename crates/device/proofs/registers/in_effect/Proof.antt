@@ -1,3 +1,4 @@
+-- `device::registers::in_effect` meets its contract: a buffered register from the copy in effect, any other as written.
 use mathlib.Core.Path.{sym, _∙_}
 use Rattle.device.specs.Registers.{inEffect}
 use borrow.Author.Needs.{needs}

@@ -1,5 +1,6 @@
 -- `device::wait::driver_advanced` meets its contract, by the law of the limit.
-use Rattle.device.specs.laws.Wait.{within-fits, within-advanced, beyond-stays}
+use Rattle.lamp.specs.laws.Count.{within-fits}
+use Rattle.device.specs.laws.Wait.{within-advanced, beyond-stays}
 use borrow.Author.Needs.{needs}
 use Rattle.device.proofs.wait.driver_advanced.Statement.{statement}
 use Rattle.device.proofs.wait.driver_advanced.Tie as tie

@@ -12,16 +12,22 @@ by-period-requires : tie.Need-by-period-requires
 by-period-requires c κs = omega (arith, mul-le-mul-right (blinkPeriod (c .before .before .args .grpfreq)) (c .before .before .fits .grppwm .fits))
 
 mul-result : tie.Need-mul-result
-mul-result c = rw (c .by-period .ensures) (omega (arith, cycle-counts (c .before .before .blink-period .result) (c .before .blink-on .result) (c .before .before .before .args .pwm) (omega arith) (c .before .before .before .args .x), within (prefix (grouped (c .before .before .blink-period .result) (c .before .blink-on .result) (c .before .before .before .args .pwm))) (c .before .before .before .args .x)))
+mul-result c =
+    let a = c .before .before .before .args in
+    rw (c .by-period .ensures) (omega (arith, cycle-counts (c .before .before .blink-period .result) (c .before .blink-on .result) (a .pwm) (omega arith) (a .x), within (prefix (grouped (c .before .before .blink-period .result) (c .before .blink-on .result) (a .pwm))) (a .x)))
 
 by-period-requires-2 : tie.Need-by-period-requires-2
 by-period-requires-2 c κs = omega (arith, mul-le-mul-right (blinkPeriod (c .before .before .before .args .grpfreq)) (c .before .before .before .fits .grppwm .fits))
 
 returns : tie.Need-returns
-returns c = cc (cycle-counts (c .before .before .before .blink-period .result) (c .before .before .blink-on .result) (c .before .before .before .before .args .pwm) (omega arith) (c .before .before .before .before .args .x))
+returns c =
+    let a = c .before .before .before .before .args in
+    cc (cycle-counts (c .before .before .before .blink-period .result) (c .before .before .blink-on .result) (a .pwm) (omega arith) (a .x))
 
 add-result : tie.Need-add-result
-add-result c = omega (arith, returns c, within (prefix (blinking (c .before .before .before .before .args .grpfreq) (c .before .before .before .before .args .grppwm) (c .before .before .before .before .args .pwm))) (c .before .before .before .before .args .x))
+add-result c =
+    let a = c .before .before .before .before .args in
+    omega (arith, returns c, within (prefix (blinking (a .grpfreq) (a .grppwm) (a .pwm))) (a .x))
 
 pub blinking-spec : {M : Type 1} → statement M
 blinking-spec =

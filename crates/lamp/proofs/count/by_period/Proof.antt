@@ -3,10 +3,11 @@ use mathlib.Core.Path.{_≡_}
 use Prim.Native.Nat.{_+_, _-_, _*_, _/_, _≤_}
 use native.Mathlib.Nat.{zero-mul, div-le-self, div-add-mod'}
 use native.Mathlib.Omega.{arith}
+use Rattle.basics.specs.laws.Division.{mul-le-of-lt-div}
 use Rattle.lamp.specs.Window.{litTicks}
 use Rattle.lamp.specs.Driver.{grouped}
 use Rattle.lamp.specs.laws.Count.{within, prefix}
-use Rattle.lamp.specs.laws.Blinking.{period-ends, next-period, last-period}
+use Rattle.lamp.specs.laws.Blinking.{next-period, last-period}
 use borrow.Author.Needs.{needs}
 use Rattle.lamp.proofs.count.by_period.Statement.{statement}
 use Rattle.lamp.proofs.count.by_period.Tie as tie
@@ -22,33 +23,51 @@ unfolding litTicks
 loop-holds c = (search needs, rw zero-mul)
 
 mul-individual-window : tie.Need-mul-individual-window Inv-loop μ-loop
-mul-individual-window c = omega (arith, period-ends (c .before .before .args .period) (c .before .before .args .x) (c .before .loop .j) (c .loop-test .taken))
+mul-individual-window c =
+    let a = c .before .before .args in
+    omega (arith, mul-le-of-lt-div (a .period) (a .x) (c .before .loop .j) (c .loop-test .taken))
 
 individual-window-requires : tie.Need-individual-window-requires Inv-loop μ-loop
-individual-window-requires c κs = omega (arith, period-ends (c .before .before .args .period) (c .before .before .args .x) (c .before .loop .j) (c .loop-test .taken))
+individual-window-requires c κs =
+    let a = c .before .before .args in
+    omega (arith, mul-le-of-lt-div (a .period) (a .x) (c .before .loop .j) (c .loop-test .taken))
 
 add-lit : tie.Need-add-lit Inv-loop μ-loop
-add-lit c = omega (arith, next-period (c .before .before .before .args .period) (c .before .before .before .args .on) (c .before .before .before .args .pwm) (c .before .before .before .pre .1) (c .before .before .loop .j), within (prefix (grouped (c .before .before .before .args .period) (c .before .before .before .args .on) (c .before .before .before .args .pwm))) ((c .before .before .loop .j + 1) * c .before .before .before .args .period), period-ends (c .before .before .before .args .period) (c .before .before .before .args .x) (c .before .before .loop .j) (c .before .loop-test .taken))
+add-lit c =
+    let a = c .before .before .before .args in
+    omega (arith, next-period (a .period) (a .on) (a .pwm) (c .before .before .before .pre .1) (c .before .before .loop .j), within (prefix (grouped (a .period) (a .on) (a .pwm))) ((c .before .before .loop .j + 1) * a .period), mul-le-of-lt-div (a .period) (a .x) (c .before .before .loop .j) (c .before .loop-test .taken))
 
 add-j : tie.Need-add-j Inv-loop μ-loop
-add-j c = omega (arith, div-le-self (c .before .before .before .args .x) (c .before .before .before .args .period))
+add-j c =
+    let a = c .before .before .before .args in
+    omega (arith, div-le-self (a .x) (a .period))
 
 loop-again : tie.Need-loop-again Inv-loop μ-loop
-loop-again c = omega (arith, next-period (c .before .before .before .args .period) (c .before .before .before .args .on) (c .before .before .before .args .pwm) (c .before .before .before .pre .1) (c .before .before .loop .j))
+loop-again c =
+    let a = c .before .before .before .args in
+    omega (arith, next-period (a .period) (a .on) (a .pwm) (c .before .before .before .pre .1) (c .before .before .loop .j))
 
 mul-individual-window-2 : tie.Need-mul-individual-window-2 Inv-loop μ-loop
-mul-individual-window-2 c = omega (arith, div-add-mod' (c .before .before .args .x) (c .before .before .args .period))
+mul-individual-window-2 c =
+    let a = c .before .before .args in
+    omega (arith, div-add-mod' (a .x) (a .period))
 
 individual-window-requires-2 : tie.Need-individual-window-requires-2 Inv-loop μ-loop
-individual-window-requires-2 c κs = omega (arith, div-add-mod' (c .before .before .before .args .x) (c .before .before .before .args .period))
+individual-window-requires-2 c κs =
+    let a = c .before .before .before .args in
+    omega (arith, div-add-mod' (a .x) (a .period))
 
 returns : tie.Need-returns Inv-loop μ-loop
 returns c =
-    let e : c .before .before .before .loop .j ≡ c .before .before .before .before .args .x / c .before .before .before .before .args .period = omega arith in
-    cc (last-period (c .before .before .before .before .args .period) (c .before .before .before .before .args .on) (c .before .before .before .before .args .pwm) (c .before .before .before .before .pre .0) (c .before .before .before .before .args .x))
+    let l = c .before .before .before in
+    let a = l .before .args in
+    let e : l .loop .j ≡ a .x / a .period = omega arith in
+    cc (last-period (a .period) (a .on) (a .pwm) (l .before .pre .0) (a .x))
 
 add-result : tie.Need-add-result Inv-loop μ-loop
-add-result c = omega (arith, returns c, within (prefix (grouped (c .before .before .before .before .args .period) (c .before .before .before .before .args .on) (c .before .before .before .before .args .pwm))) (c .before .before .before .before .args .x))
+add-result c =
+    let a = c .before .before .before .before .args in
+    omega (arith, returns c, within (prefix (grouped (a .period) (a .on) (a .pwm))) (a .x))
 
 pub by-period-spec : {M : Type 1} → statement M
 by-period-spec =

@@ -12,10 +12,14 @@ mul-result c = rw (c .duty .ensures) (omega (arith, within (dimmed-counts (c .be
 
 returns : tie.Need-returns
 unfolding groupCount
-returns c = cc (from-zero (dimmed-counts (c .before .before .before .fits .grppwm .fits) (c .before .before .before .fits .pwm .fits)) (c .before .before .before .args .x))
+returns c =
+    let t = c .before .before .before in
+    cc (from-zero (dimmed-counts (t .fits .grppwm .fits) (t .fits .pwm .fits)) (t .args .x))
 
 add-result : tie.Need-add-result
-add-result c = omega (arith, returns c, within (prefix (dimmed (c .before .before .before .args .grppwm) (c .before .before .before .args .pwm))) (c .before .before .before .args .x))
+add-result c =
+    let a = c .before .before .before .args in
+    omega (arith, returns c, within (prefix (dimmed (a .grppwm) (a .pwm))) (a .x))
 
 pub dimmed-spec : {M : Type 1} → statement M
 dimmed-spec =

@@ -6,10 +6,14 @@ use Rattle.lamp.proofs.count.individual_window.Statement.{statement}
 use Rattle.lamp.proofs.count.individual_window.Tie as tie
 
 sub-result : tie.Need-sub-result
-sub-result c = omega (arith, window (individual-counts {N = c .before .before .args .pwm} (omega arith)) (c .before .before .args .at) (c .before .before .args .ticks))
+sub-result c =
+    let a = c .before .before .args in
+    omega (arith, window (individual-counts {N = a .pwm} (omega arith)) (a .at) (a .ticks))
 
 returns : tie.Need-returns
-returns c = omega (arith, window (individual-counts {N = c .before .before .args .pwm} (omega arith)) (c .before .before .args .at) (c .before .before .args .ticks))
+returns c =
+    let a = c .before .before .args in
+    omega (arith, window (individual-counts {N = a .pwm} (omega arith)) (a .at) (a .ticks))
 
 pub individual-window-spec : {M : Type 1} → statement M
 individual-window-spec =

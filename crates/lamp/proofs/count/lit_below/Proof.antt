@@ -15,7 +15,9 @@ duty-requires : tie.Need-duty-requires
 duty-requires c κs = omega (arith, mul-le-mul-right (c .args .psc + 1) (c .fits .pwm .fits))
 
 returns : tie.Need-returns
-returns c = c .duty .ensures ∙ from-zero (below-counts (c .before .args .psc) (c .before .args .pwm) (omega arith)) (c .before .args .x)
+returns c =
+    let a = c .before .args in
+    c .duty .ensures ∙ from-zero (below-counts (a .psc) (a .pwm) (omega arith)) (a .x)
 
 pub lit-below-spec : {M : Type 1} → statement M
 lit-below-spec = tie.close (tie.spec (λ c. search needs) (λ c. search needs) mul-duty-2 duty-requires returns)

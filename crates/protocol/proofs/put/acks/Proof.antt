@@ -1,3 +1,4 @@
+-- `protocol::put::acks` meets its contract, phase by phase.
 use Rattle.protocol.specs.Put.{acksTo}
 use borrow.Author.Needs.{needs}
 use Rattle.protocol.proofs.put.acks.Statement.{statement}
@@ -5,7 +6,7 @@ use Rattle.protocol.proofs.put.acks.Tie as tie
 
 returns : tie.Need-returns
 unfolding acksTo
-returns c = simp (c .is-selected .ensures, c .before .stage-after .ensures, c .before .before .enum-told .given .1)
+returns c = simp (c .is-selected .ensures, c .before .stage-after-address .ensures, c .before .before .enum-told .given .1)
 
 returns-2 : tie.Need-returns-2
 unfolding acksTo

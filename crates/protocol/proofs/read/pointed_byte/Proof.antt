@@ -1,3 +1,4 @@
+-- `protocol::read::pointed_byte` meets its contract: a blinker's INPUT comes from its lamps, every other register as it reads.
 use mathlib.Core.Path.{sym, _∙_}
 use borrow.Author.Tests.{eq-eqb, ne-eqb}
 use Rattle.protocol.specs.Read.{pointedByte}

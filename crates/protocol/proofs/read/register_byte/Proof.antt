@@ -1,3 +1,4 @@
+-- `protocol::read::register_byte` meets its contract.
 use Rattle.protocol.specs.Read.{registerByte}
 use borrow.Author.Needs.{needs}
 use Rattle.protocol.proofs.read.register_byte.Statement.{statement}

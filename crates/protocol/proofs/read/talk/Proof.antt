@@ -1,3 +1,4 @@
+-- `protocol::read::talk` meets its contract, by whether the device talks.
 use mathlib.Core.Path.{sym, _∙_}
 use Rattle.protocol.specs.Read.{talkOf}
 use borrow.Author.Needs.{needs}

@@ -1,15 +1,16 @@
+-- `protocol::stop::committed` meets its contract. The loop's invariant: the registers from PWM0 up to i are copied. The measure is the number of registers left.
 use mathlib.Core.Path.{_≡_, ap, _∙_}
 use Prim.Native.Nat.{ℕ, _-_, _≤_}
 use native.Mathlib.Omega.{arith}
 use lib.ListN.{length, getD, length-set}
 use borrow.Author.Needs.{needs}
+use Rattle.basics.specs.laws.Lists.{copied, copied-none, copied-more}
+use Rattle.basics.specs.laws.Tabulate.{tabulated}
 use Rattle.chip.specs.Kinds.{outputsOf}
 use Rattle.chip.specs.Registers.{subadr1}
 use Rattle.chip.specs.declared.RegisterMap.{RegisterMap}
-use Rattle.chip.proofs.Laws.{outputs-few}
+use Rattle.chip.specs.laws.Registers.{outputs-few}
 use Rattle.protocol.specs.Stop.{committedAt, committed}
-use Rattle.basics.specs.laws.Lists.{copied, copied-none, copied-more}
-use Rattle.basics.specs.laws.Tabulate.{tabulated}
 use Rattle.protocol.proofs.stop.committed.Statement.{statement}
 use Rattle.protocol.proofs.stop.committed.Tie as tie
 
@@ -51,6 +52,7 @@ committed-spec =
     Inv-loop
     μ-loop
     (λ c κs. search needs)
+    (λ c. search needs)
     (λ c. search needs)
     loop-holds
     (λ c. search needs)

@@ -1,3 +1,4 @@
+-- `protocol::write::acks` meets its contract, stage by stage.
 use Rattle.protocol.specs.Write.{acksData}
 use borrow.Author.Needs.{needs}
 use Rattle.protocol.proofs.write.acks.Statement.{statement}

@@ -1,3 +1,4 @@
+-- `protocol::write::is_call_byte` meets its contract, by kind.
 use mathlib.Core.Path.{sym, _∙_}
 use borrow.Author.Needs.{needs}
 use Rattle.protocol.proofs.write.is_call_byte.Statement.{statement}

@@ -1,3 +1,4 @@
+-- `protocol::write::new_byte` meets its contract.
 use Rattle.protocol.specs.Write.{newByte}
 use borrow.Author.Needs.{needs}
 use Rattle.protocol.proofs.write.new_byte.Statement.{statement}

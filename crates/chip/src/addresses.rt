@@ -1,0 +1,20 @@
+// Which hardware addresses a chip can have.
+use crate::Chip;
+ghost use mathlib.Core.Path.{_≡_};
+ghost use Rattle.chip.specs.Addresses.{addressAllowed};
+
+pub fn address_allowed(chip: Chip, address: u64) -> bool
+    ensures { λ r. ⌜ r ≡ addressAllowed chip address ⌝ }
+{
+    if crate::is_driver(chip) {
+        if address == 3 {
+            false
+        } else if address == 112 {
+            false
+        } else {
+            address <= 127
+        }
+    } else {
+        address <= 7
+    }
+}

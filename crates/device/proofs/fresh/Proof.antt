@@ -1,9 +1,0 @@
-use borrow.Author.Needs.{needs}
-use Rattle.device.proofs.fresh.Statement.{statement}
-use Rattle.device.proofs.fresh.Tie as tie
-
-returns : tie.Need-returns
-returns c = simp (c .reset-control .ensures, c .before .reset-registers .ensures)
-
-pub fresh-spec : {M : Type 1} → statement M
-fresh-spec = tie.close (tie.spec (λ c κs. search needs) (λ c κs. search needs) returns)

@@ -1,0 +1,47 @@
+-- `lamp::driver::driver_lit` meets its contract.
+use Rattle.lamp.specs.Driver.{individual, driverLit}
+use borrow.Author.Needs.{needs}
+use Rattle.lamp.proofs.driver.driver_lit.Statement.{statement}
+use Rattle.lamp.proofs.driver.driver_lit.Tie as tie
+
+returns : tie.Need-returns
+unfolding driverLit
+returns c = rw (c .enum-told .given .1)
+
+returns-2 : tie.Need-returns-2
+unfolding driverLit
+returns-2 c = rw (c .enum-told2 .given .1)
+
+returns-3 : tie.Need-returns-3
+unfolding individual driverLit
+returns-3 c = rw (c .before .before .mode .given .1)
+
+returns-4 : tie.Need-returns-4
+unfolding driverLit
+returns-4 c = rw (c .before .before .mode2 .given .1) (c .grouped .ensures)
+
+returns-5 : tie.Need-returns-5
+unfolding driverLit
+returns-5 c = rw (c .before .before .before .before .mode3 .given .1) (rw (c .before .before .blink-period .ensures, c .before .blink-on .ensures) at (c .grouped2 .ensures))
+
+pub driver-lit-spec : {M : Type 1} → statement M
+driver-lit-spec =
+    tie.close
+    (tie.spec
+    (λ c. search needs)
+    (λ c. search needs)
+    (λ c. search needs)
+    (λ c. search needs)
+    (λ c. search needs)
+    (λ c. search needs)
+    (λ c. search needs)
+    (λ c κs. search needs)
+    (λ c. search needs)
+    (λ c κs. search needs)
+    (λ c κs. search needs)
+    (λ c κs. search needs)
+    returns
+    returns-2
+    returns-3
+    returns-4
+    returns-5)

@@ -1,0 +1,109 @@
+// When an output of a driver is lit, and for how many ticks of a window.
+use crate::DriverMode;
+use crate::DriverTicks;
+use crate::count;
+ghost use mathlib.Core.Path.{_≡_};
+ghost use Prim.Native.Nat.{_<_};
+ghost use Rattle.lamp.specs.Window.{litTicks, countedTicks};
+ghost use Rattle.lamp.specs.Driver.{grouped, blinkPeriod, blinkOn, driverMode, driverLit};
+
+// The period of group dimming, a multiple of the 256 ticks of a brightness.
+pub const DIMMING_PERIOD: u64 = 131072;
+
+// The mode that a driver's registers give one of its outputs.
+pub fn driver_mode(ledout: u8, dmblnk: bool, pwm: u8, grppwm: u8, grpfreq: u8) -> DriverMode
+    ensures { λ r. ⌜ r ≡ driverMode ledout dmblnk pwm grppwm grpfreq ⌝ }
+{
+    match ledout {
+        0 => DriverMode::Off,
+        1 => DriverMode::On,
+        2 => DriverMode::Individual { pwm: pwm },
+        _ => {
+            if dmblnk {
+                DriverMode::Blinking {
+                    pwm: pwm,
+                    grppwm: grppwm,
+                    grpfreq: grpfreq,
+                }
+            } else {
+                DriverMode::Dimmed {
+                    pwm: pwm,
+                    grppwm: grppwm,
+                }
+            }
+        }
+    }
+}
+
+// Individual brightness and a group test that holds for the first `on` ticks of each `period`.
+fn grouped(period: u64, on: u64, pwm: u8, at: u64) -> bool
+    requires { ⌜ 0 < period ⌝ }
+    ensures { λ r. ⌜ r ≡ grouped period on pwm at ⌝ }
+{
+    if at % 256 < pwm as u64 {
+        at % period < on
+    } else {
+        false
+    }
+}
+
+// The period of group blinking.
+pub fn blink_period(grpfreq: u8) -> u64
+    ensures { λ r. ⌜ r ≡ blinkPeriod grpfreq ⌝ }
+{
+    25000000 * (grpfreq as u64 + 1) / 24
+}
+
+// The ticks of each blink period for which the group test holds.
+pub fn blink_on(grppwm: u8, grpfreq: u8) -> u64
+    ensures { λ r. ⌜ r ≡ blinkOn grpfreq grppwm ⌝ }
+{
+    grppwm as u64 * blink_period(grpfreq) / 256
+}
+
+// Whether a driver's output is lit at a tick.
+pub fn driver_lit(mode: DriverMode, at: DriverTicks) -> bool
+    ensures { λ r. ⌜ r ≡ driverLit mode (at .0) ⌝ }
+{
+    match mode {
+        DriverMode::Off => false,
+        DriverMode::On => true,
+        DriverMode::Individual { pwm } => at.0 % 256 < pwm as u64,
+        DriverMode::Dimmed { pwm, grppwm } => {
+            grouped(DIMMING_PERIOD, 512 * (grppwm as u64), pwm, at.0)
+        }
+        DriverMode::Blinking {
+            pwm,
+            grppwm,
+            grpfreq,
+        } => { grouped(blink_period(grpfreq), blink_on(grppwm, grpfreq), pwm, at.0) }
+    }
+}
+
+// The lit ticks among the first x of a driver's output.
+fn driver_count(mode: DriverMode, x: u64) -> u64
+    ensures { λ r. ⌜ r ≡ litTicks (driverLit mode) 0 x ⌝ }
+{
+    match mode {
+        DriverMode::Off => 0,
+        DriverMode::On => x,
+        DriverMode::Individual { pwm } => count::duty(256, pwm as u64, x),
+        DriverMode::Dimmed { pwm, grppwm } => count::dimmed(pwm, grppwm, x),
+        DriverMode::Blinking {
+            pwm,
+            grppwm,
+            grpfreq,
+        } => count::blinking(pwm, grppwm, grpfreq, x),
+    }
+}
+
+// The lit ticks of a window of a driver's output.
+pub fn driver_lit_ticks(mode: DriverMode, at: DriverTicks, ticks: DriverTicks) -> DriverTicks
+    ensures { λ r. ⌜ r .0 ≡ countedTicks (driverLit mode) (at .0) (ticks .0) ⌝ }
+{
+    if crate::driver_within(at, ticks) {
+        DriverTicks(driver_count(mode, at.0 + ticks.0) - driver_count(mode, at.0))
+    } else {
+        DriverTicks(0)
+    }
+}
