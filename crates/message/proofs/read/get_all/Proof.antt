@@ -1,19 +1,21 @@
+-- The loop: the first i bytes of the part are got, the others as they were.
 use Prim.Native.Nat.{_-_, _≤_}
 use mathlib.Core.Path.{_≡_}
-use mathlib.Core.List.{_++_}
+use mathlib.Core.List.{_++_, map}
 use native.Mathlib.Omega.{arith}
 use lib.ListN.{length, drop}
 use borrow.Author.Needs.{needs}
 use Rattle.bus.specs.Events.{runBus}
-use Rattle.message.specs.Message.{getsOf}
-use Rattle.message.specs.Sent.{valuesOf}
-use Rattle.message.specs.laws.Gets.{get-byte, gets-none, run-more, got-more, gets-done}
+use Rattle.bus.specs.declared.Event.the-variants.{Signal}
+use Rattle.message.specs.Read.{getsOf, valuesOf}
+use Rattle.message.specs.laws.Values.{get-value}
+use Rattle.message.specs.laws.Gets.{gets-none, run-more, got-more, gets-done}
 use Rattle.message.proofs.read.get_all.Statement.{statement}
 use Rattle.message.proofs.read.get_all.Tie as tie
 
 abbrev Inv-loop : tie.InvT-loop
 Inv-loop n part₀ bus₀ i₀ part bus i =
-    (i ≤ n) × (length part ≡ length part₀) × (bus ≡ runBus bus₀ (getsOf n i)) × (part ≡ valuesOf bus₀ (getsOf n i) ++ drop i part₀)
+    (i ≤ n) × (length part ≡ length part₀) × (bus ≡ runBus bus₀ (map Signal (getsOf n i))) × (part ≡ valuesOf bus₀ (getsOf n i) ++ drop i part₀)
 
 abbrev μ-loop : tie.MeasureT-loop
 μ-loop n part₀ bus₀ i₀ part bus i = n - i
@@ -24,7 +26,7 @@ loop-holds c =
     (search needs, search needs, z .0, z .1)
 
 cast-part : tie.Need-cast-part Inv-loop μ-loop
-cast-part c = omega (arith, get-byte _ _ _ (c .before .get .ensures))
+cast-part c = omega (arith, get-value _ _ _ (c .before .get .ensures))
 
 loop-again : tie.Need-loop-again Inv-loop μ-loop
 loop-again c =

@@ -1,6 +1,6 @@
+-- The head and the gets make the message that the STOP ends; the bytes got go back into the buffer at the place.
 use mathlib.Core.Path.{_∙_}
-use Rattle.message.specs.Message.{readHead, getsOf, bytesGot}
-use Rattle.message.specs.Sent.{valuesOf}
+use Rattle.message.specs.Read.{readHead, getsOf, bytesGot}
 use Rattle.message.specs.laws.Sent.{under-way-bus, read-ends}
 use Rattle.message.specs.laws.Gets.{gets-acked}
 use Rattle.basics.specs.laws.Lists.{tail-back}
@@ -9,7 +9,6 @@ use Rattle.message.proofs.read.read_done.Statement.{statement}
 use Rattle.message.proofs.read.read_done.Tie as tie
 
 returns : tie.Need-returns
-unfolding valuesOf
 returns c =
     let start = c .before .before .before .before .before .before .before in
     let b = start .args .bus in

@@ -1,7 +1,10 @@
-use mathlib.Core.Path.{sym, ap, _∙_}
+-- By its code, the run of its events and the bytes got in the buffer, or a refusal and the buffer as it was.
+use mathlib.Core.Path.{refl, sym, ap, _∙_}
+use lib.ListN.{length}
+use Rattle.refusals.specs.laws.Refusals.{accepted}
 use Rattle.bus.specs.laws.Replies.{answered, turned-away}
 use Rattle.bus.specs.declared.Reply.{Reply}
-use Rattle.message.specs.Message.{readReply}
+use Rattle.message.specs.Read.{readRefusals, readReply}
 use Rattle.message.specs.laws.Buffer.{read-fits, buffer-stored, buffer-kept}
 use borrow.Author.Needs.{needs}
 use Rattle.message.proofs.read.read_message.Statement.{statement}
@@ -9,9 +12,9 @@ use Rattle.message.proofs.read.read_message.Tie as tie
 
 read-done-requires : tie.Need-read-done-requires
 read-done-requires c κs =
-    let start = c .before .before .before .before in
-    let a = start .args in
-    let fits = read-fits (a .bus) (a .address) (a .control) (a .n) (a .place) (a .buffer .now) (sym (c .before .before .read-code .ensures) ∙ c .before .if1 .taken) in
+    let a = c .before .before .before .before .args in
+    let none = accepted (readRefusals (a .bus) (a .address) (a .control) (a .n) (a .place) (length (a .buffer .now))) refl (sym (c .before .before .read-code .ensures) ∙ c .before .if1 .taken) in
+    let fits = read-fits (a .bus) (a .address) (a .control) (a .n) (a .place) (a .buffer .now) none in
     (fits .seven-bits, fits .inside)
 
 returns : tie.Need-returns

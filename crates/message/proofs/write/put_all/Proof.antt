@@ -1,10 +1,11 @@
+-- The loop: the first i bytes are put.
 use Prim.Native.Nat.{_+_, _-_, _≤_}
 use mathlib.Core.Path.{_≡_}
 use mathlib.Core.List.{map}
 use native.Mathlib.Omega.{arith}
 use lib.ListN.{length, take}
 use borrow.Author.Needs.{needs}
-use Rattle.bus.specs.declared.Event.the-variants.{Put}
+use Rattle.bus.specs.declared.SignalEvent.the-variants.{Put}
 use Rattle.message.specs.laws.Sent.{puts-none, puts-more, puts-done}
 use Rattle.message.specs.Sent.{sentBy}
 use Rattle.message.proofs.write.put_all.Statement.{statement}

@@ -1,16 +1,17 @@
+-- By its code, the run of its events or a refusal; an accepted address has seven bits.
 use mathlib.Core.Path.{refl, sym, _∙_}
 use borrow.Author.Tests.{ltb-false}
-use Rattle.bus.specs.laws.Refusals.{accepted}
+use Rattle.refusals.specs.laws.Refusals.{accepted}
 use Rattle.bus.specs.laws.Replies.{answered, turned-away}
-use Rattle.message.specs.Message.{writeRefusals, writeReply}
+use Rattle.message.specs.Write.{writeRefusals, writeReply}
 use borrow.Author.Needs.{needs}
 use Rattle.message.proofs.write.write_message.Statement.{statement}
 use Rattle.message.proofs.write.write_message.Tie as tie
 
 write-done-requires : tie.Need-write-done-requires
 write-done-requires c κs =
-    let start = c .before .before .before in
-    ltb-false 127 (start .args .address) (accepted 0 (writeRefusals (start .args .bus) (start .args .address)) refl (sym (c .before .write-code .ensures) ∙ c .if1 .taken) .1 .1 .0)
+    let a = c .before .before .before .args in
+    ltb-false 127 (a .address) (accepted (writeRefusals (a .bus) (a .address)) refl (sym (c .before .write-code .ensures) ∙ c .if1 .taken) .1 .1 .0)
 
 returns : tie.Need-returns
 unfolding writeReply
