@@ -2,12 +2,10 @@
 -- of the lent buffer only the part from the place on changes.
 use mathlib.Core.Path.{_≡_, refl, sym}
 use mathlib.Core.Bool.{true}
-use mathlib.Core.List.{List, _++_, map, append-assoc}
+use mathlib.Core.List.{List, map}
 use Prim.Native.Nat.{ℕ, _+_, _≤_}
-use native.Mathlib.Omega.{arith}
 use lib.Dec.{eqb}
-use lib.ListN.{length, take, drop, length-append, length-drop}
-use lib.Seq.{length-take-le, take-at, drop-at}
+use lib.ListN.{length, take, drop}
 use borrow.Author.Tests.{eqb-true}
 use Rattle.basics.specs.First.{all}
 use Rattle.basics.specs.laws.Logic.{tested, holds, fails}
@@ -23,7 +21,7 @@ use Rattle.message.specs.Message.{messageDone}
 use Rattle.message.specs.Write.{writeEvents, writeRefusals, writeReply}
 use Rattle.message.specs.Read.{readHead, readEvents, readRefusals, readReply, bytesGot, stored, bufferAfter}
 use Rattle.message.specs.laws.Gets.{got-length}
-use Rattle.message.specs.laws.Buffer.{read-fits, buffer-stored, buffer-kept}
+use Rattle.message.specs.laws.Buffer.{read-fits, buffer-stored, buffer-kept, placed-length, placed-before, placed-after, placed-there}
 use Rattle.message.specs.laws.Turns.{isDone, isByte, write-done, read-done}
 
 -- ---- the write
@@ -103,26 +101,19 @@ module _ (b : Bus) (address control n place : ℕ) (buffer : List ℕ) where
 
   pub length-kept : length (bufferAfter b address control n place buffer) ≡ length buffer
   length-kept =
-      afterwards (λ (x : List ℕ). length x ≡ length buffer) refl
-      (λ h. rw (length-append, length-append, length-drop, got-n, length-take-le place buffer (omega arith)) (omega arith))
+      afterwards (λ (x : List ℕ). length x ≡ length buffer) refl (λ h. placed-length buffer _ place n h got-n)
 
   pub before-kept : take place (bufferAfter b address control n place buffer) ≡ take place buffer
   before-kept =
-      afterwards (λ (x : List ℕ). take place x ≡ take place buffer) refl
-      (λ h. rw append-assoc (take-at (take place buffer) (bytesGot b address control n ++ drop (place + n) buffer) place (length-take-le place buffer (omega arith))))
+      afterwards (λ (x : List ℕ). take place x ≡ take place buffer) refl (λ h. placed-before buffer _ place n h got-n)
 
   pub after-kept : drop (place + n) (bufferAfter b address control n place buffer) ≡ drop (place + n) buffer
   after-kept =
       afterwards (λ (x : List ℕ). drop (place + n) x ≡ drop (place + n) buffer) refl
-      (λ h. drop-at (take place buffer ++ bytesGot b address control n) (drop (place + n) buffer) (place + n) (rw (length-append, got-n, length-take-le place buffer (omega arith)) refl))
+      (λ h. placed-after buffer _ place n h got-n)
 
   -- the part from the place on holds the bytes got, in order
   pub part-got : readReply b address control n place (length buffer) .code ≡ 0 → take n (drop place (bufferAfter b address control n place buffer)) ≡ bytesGot b address control n
   part-got z =
-      let h : place + n ≤ length buffer = accepted-fits z in
-      rw (
-        ← buffer-stored b address control n place buffer (readReply b address control n place (length buffer)) refl z,
-        append-assoc,
-        drop-at (take place buffer) (bytesGot b address control n ++ drop (place + n) buffer) place (length-take-le place buffer (omega arith)),
-      )
-      (take-at (bytesGot b address control n) (drop (place + n) buffer) n got-n)
+      rw (← buffer-stored b address control n place buffer _ refl z)
+      (placed-there buffer (bytesGot b address control n) place n (accepted-fits z) got-n)

@@ -4,13 +4,11 @@ use bus::Bus;
 use bus::Reply;
 use refusals::or_refused;
 ghost use mathlib.Core.Path.{_≡_};
-ghost use mathlib.Core.List.{_++_, map};
+ghost use mathlib.Core.List.{_++_};
 ghost use Prim.Native.Nat.{_+_, _≤_, _<_};
 ghost use lib.Dec.{ltb};
 ghost use lib.ListN.{length, drop};
 ghost use Rattle.refusals.specs.Refusals.{codeOf};
-ghost use Rattle.bus.specs.declared.Event.the-variants.{Signal};
-ghost use Rattle.bus.specs.Events.{runBus};
 ghost use Rattle.message.specs.Message.{messageDone};
 ghost use Rattle.message.specs.Read.{ackAt, getsOf, readHead, readEvents, readRefusals, readReply, valuesOf, stored, bufferAfter};
 ghost use Rattle.message.specs.Sent.{begun, sentBy};
@@ -49,18 +47,21 @@ fn ack_at(n: usize, i: usize) -> u64
 }
 
 // n gets, whose bytes go to the start of the part.
-fn get_all(first: Bus, n: usize, part: &mut [u8]) -> Bus
+fn get_all(first: Sent, n: usize, part: &mut [u8]) -> Sent
     requires { ⌜ n ≤ length (now part) ⌝ }
-    ensures { λ r. ⌜ r ≡ runBus first (map Signal (getsOf n n)) ⌝ }
-    ensures { λ r. ⌜ now (part .exit) ≡ valuesOf first (getsOf n n) ++ drop n (now (part .entry)) ⌝ }
+    ensures { λ r. ⌜ r ≡ sentBy first (getsOf n n) ⌝ }
+    ensures { λ r. ⌜ now (part .exit) ≡ valuesOf (first .bus) (getsOf n n) ++ drop n (now (part .entry)) ⌝ }
 {
-    let mut bus = first;
+    let mut bus = first.bus;
     for i in 0..n {
         let reply = bus::calls::get(bus, ack_at(n, i));
         part[i] = reply.value as u8;
         bus = reply.bus;
     }
-    bus
+    Sent {
+        acks: first.acks,
+        bus: bus,
+    }
 }
 
 // The tail of the buffer that starts at the place is lent to the gets.
@@ -77,8 +78,8 @@ fn read_done(
     ensures { λ r. ⌜ now (buffer .exit) ≡ stored bus address control n place (now (buffer .entry)) ⌝ }
 {
     let sent = head(bus, address, control);
-    let last = get_all(sent.bus, n, &mut buffer[place..]);
-    crate::sent::stop(sent.acks, last)
+    let got = get_all(sent, n, &mut buffer[place..]);
+    crate::sent::stop(got)
 }
 
 pub fn read_message(

@@ -4,11 +4,8 @@ use bus::Reply;
 ghost use mathlib.Core.Path.{_≡_};
 ghost use mathlib.Core.List.{[], _∷_};
 ghost use Prim.Native.Nat.{_+_, _≤_, _<_};
-ghost use Rattle.bus.specs.declared.Event.the-variants.{Signal};
 ghost use Rattle.bus.specs.declared.SignalEvent.the-variants.{Start, Stop, Put};
-ghost use Rattle.bus.specs.Events.{stepReply};
-ghost use Rattle.bus.specs.Replies.{doneWith};
-ghost use Rattle.message.specs.Sent.{sentBy};
+ghost use Rattle.message.specs.Sent.{sentBy, ended};
 
 pub struct Sent {
     pub acks: u64,
@@ -42,9 +39,9 @@ pub fn put(sent: Sent, byte: u64) -> Sent
 }
 
 // The STOP that ends a message.
-pub fn stop(acks: u64, bus: Bus) -> Reply
-    ensures { λ r. ⌜ r ≡ doneWith acks (stepReply bus (Signal Stop) .bus) ⌝ }
+pub fn stop(sent: Sent) -> Reply
+    ensures { λ r. ⌜ r ≡ ended (sentBy sent (Stop ∷ [])) ⌝ }
 {
-    let reply = bus::calls::stop(bus);
-    bus::done(acks, reply.bus)
+    let reply = bus::calls::stop(sent.bus);
+    bus::done(sent.acks, reply.bus)
 }

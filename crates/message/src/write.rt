@@ -39,8 +39,7 @@ fn write_done(bus: Bus, address: u64, bytes: &[u8]) -> Reply
 {
     let started = crate::sent::start(Sent { acks: 0, bus: bus });
     let addressed = crate::sent::put(started, 2 * address);
-    let sent = put_all(addressed, bytes);
-    crate::sent::stop(sent.acks, sent.bus)
+    crate::sent::stop(put_all(addressed, bytes))
 }
 
 pub fn write_message(bus: Bus, address: u64, bytes: &[u8]) -> Reply

@@ -37,16 +37,4 @@ returns : tie.Need-returns Inv-loop μ-loop
 returns c = puts-done _ _ (c .before .before .before .args .bytes .now) (c .before .loop .i) (search needs) (c .before .loop .inv .3)
 
 pub put-all-spec : {M : Type 1} → statement M
-put-all-spec =
-    tie.close
-    (tie.spec
-    Inv-loop
-    μ-loop
-    loop-holds
-    (λ c. search needs)
-    cast-put
-    (λ c κs. search needs)
-    (λ c. search needs)
-    (λ c. search needs)
-    loop-again
-    returns)
+put-all-spec = tie.close (tie.spec Inv-loop μ-loop loop-holds (λ c. search needs) cast-put (λ c κs. search needs) (λ c. search needs) (λ c. search needs) loop-again returns)

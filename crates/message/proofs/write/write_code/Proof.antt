@@ -22,5 +22,4 @@ returns c =
     refused-more (four ∷ five ∷ []) 7 _ _ _ _ second refl (c .or-refused3 .ensures)
 
 pub write-code-spec : {M : Type 1} → statement M
-write-code-spec =
-    tie.close (tie.spec (λ c κs. search needs) (λ c κs. search needs) (λ c κs. search needs) (λ c κs. search needs) (λ c κs. search needs) returns)
+write-code-spec = tie.close (tie.spec (λ c κs. search needs) (λ c κs. search needs) (λ c κs. search needs) (λ c κs. search needs) (λ c κs. search needs) returns)

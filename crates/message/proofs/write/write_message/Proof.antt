@@ -22,5 +22,4 @@ unfolding writeReply
 returns-2 c = turned-away _ _ _ _ _ (c .before .before .write-code .ensures) (c .before .if1 .left) (c .refused .ensures)
 
 pub write-message-spec : {M : Type 1} → statement M
-write-message-spec =
-    tie.close (tie.spec (λ c κs. search needs) write-done-requires (λ c κs. search needs) returns returns-2)
+write-message-spec = tie.close (tie.spec (λ c κs. search needs) write-done-requires (λ c κs. search needs) returns returns-2)
