@@ -12,7 +12,8 @@ ghost use Rattle.message.specs.Message.{messageDone};
 ghost use Rattle.message.specs.Write.{writeEvents, writeRefusals, writeReply};
 ghost use Rattle.message.specs.Sent.{sentBy};
 
-pub fn write_code(bus: Bus, address: u64) -> u64
+// A read is refused with these numbers, too.
+pub(crate) fn write_code(bus: Bus, address: u64) -> u64
     ensures { λ r. ⌜ r ≡ codeOf (writeRefusals bus address) ⌝ }
 {
     let phase = bus.phase;
