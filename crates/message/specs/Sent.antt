@@ -1,27 +1,21 @@
 -- A message under way: its bus and the puts acknowledged so far.
-use Prim.Native.Nat.{ℕ, _+_}
-use mathlib.Core.Bool.{cond}
-use mathlib.Core.List.{List, [], _∷_, map}
-use Rattle.bus.specs.Events.{stepReply, runReplies}
+use Prim.Native.Nat.{_+_}
+use mathlib.Core.List.{List, map}
+use Rattle.bus.specs.Replies.{doneWith}
+use Rattle.bus.specs.Events.{runBus}
 use Rattle.bus.specs.declared.Bus.{Bus}
-use Rattle.bus.specs.declared.Event.{Event}
+use Rattle.bus.specs.declared.Event.the-variants.{Signal}
 use Rattle.bus.specs.declared.Reply.{Reply}
-use Rattle.message.specs.Message.{isAcked}
+use Rattle.bus.specs.declared.SignalEvent.{SignalEvent}
+use Rattle.message.specs.Message.{ackedPuts}
 use Rattle.message.specs.declared.sent.Sent.{Sent}
 
 abbrev pub begun : Bus → Sent
 begun b = record { acks = 0; bus = b }
 
--- after one event more
-unfoldable pub sentNext : Sent → Event → Sent
-sentNext s e =
-    record { acks = s .acks + cond (isAcked e (stepReply (s .bus) e)) 1 0; bus = stepReply (s .bus) e .bus }
+-- after further events
+unfoldable pub sentBy : Sent → List SignalEvent → Sent
+sentBy s events = record { acks = s .acks + ackedPuts (s .bus) events; bus = runBus (s .bus) (map Signal events) }
 
--- after a list of events
-unfoldable pub sentBy : Sent → List Event → Sent
-sentBy s [] = s
-sentBy s (e ∷ l) = sentBy (sentNext s e) l
-
--- the values of a run of events
-unfoldable pub valuesOf : Bus → List Event → List ℕ
-valuesOf b l = map (λ (r : Reply). r .value) (runReplies b l)
+abbrev pub ended : Sent → Reply
+ended s = doneWith (s .acks) (s .bus)

@@ -2,26 +2,16 @@
 use crate::sent::Sent;
 use bus::Bus;
 use bus::Reply;
+use refusals::or_refused;
 ghost use mathlib.Core.Path.{_≡_};
-ghost use mathlib.Core.Bool.{_||_};
 ghost use mathlib.Core.List.{_++_};
 ghost use Prim.Native.Nat.{_+_, _≤_, _<_};
-ghost use lib.Dec.{ltb, eqb};
+ghost use lib.Dec.{ltb};
 ghost use lib.ListN.{length, drop};
-ghost use Rattle.bus.specs.Events.{runBus};
-ghost use Rattle.bus.specs.Refusals.{codeOf};
-ghost use Rattle.message.specs.Message.{ackAt, getsOf, readHead, readEvents, messageDone, readRefusals, readReply, stored, bufferAfter};
-ghost use Rattle.message.specs.Sent.{begun, sentBy, valuesOf};
-
-fn is_bad(address: u64, control: u64, n: u64) -> bool
-    ensures { λ r. ⌜ r ≡ (ltb 127 address || ltb 255 control || eqb n 0) ⌝ }
-{
-    if 127 < address {
-        true
-    } else {
-        if 255 < control { true } else { n == 0 }
-    }
-}
+ghost use Rattle.refusals.specs.Refusals.{codeOf};
+ghost use Rattle.message.specs.Message.{messageDone};
+ghost use Rattle.message.specs.Read.{ackAt, getsOf, readHead, readEvents, readRefusals, readReply, valuesOf, stored, bufferAfter};
+ghost use Rattle.message.specs.Sent.{begun, sentBy};
 
 // Whether place + n is past the end, where the sum may be too large for a u64.
 fn is_past(place: u64, n: u64, size: u64) -> bool
@@ -33,20 +23,10 @@ fn is_past(place: u64, n: u64, size: u64) -> bool
 fn read_code(bus: Bus, address: u64, control: u64, n: u64, place: u64, size: u64) -> u64
     ensures { λ r. ⌜ r ≡ codeOf (readRefusals bus address control n place size) ⌝ }
 {
-    let phase = bus.phase;
-    if bus::is_ok(bus) {
-        if protocol::signals::is_open(phase) {
-            5
-        } else {
-            if is_bad(address, control, n) {
-                7
-            } else {
-                if is_past(place, n, size) { 8 } else { 0 }
-            }
-        }
-    } else {
-        4
-    }
+    let code = crate::write::write_code(bus, address);
+    let code = or_refused(code, 7, 255 < control);
+    let code = or_refused(code, 7, n == 0);
+    or_refused(code, 8, is_past(place, n, size))
 }
 
 fn head(bus: Bus, address: u64, control: u64) -> Sent
@@ -67,18 +47,21 @@ fn ack_at(n: usize, i: usize) -> u64
 }
 
 // n gets, whose bytes go to the start of the part.
-fn get_all(first: Bus, n: usize, part: &mut [u8]) -> Bus
+fn get_all(first: Sent, n: usize, part: &mut [u8]) -> Sent
     requires { ⌜ n ≤ length (now part) ⌝ }
-    ensures { λ r. ⌜ r ≡ runBus first (getsOf n n) ⌝ }
-    ensures { λ r. ⌜ now (part .exit) ≡ valuesOf first (getsOf n n) ++ drop n (now (part .entry)) ⌝ }
+    ensures { λ r. ⌜ r ≡ sentBy first (getsOf n n) ⌝ }
+    ensures { λ r. ⌜ now (part .exit) ≡ valuesOf (first .bus) (getsOf n n) ++ drop n (now (part .entry)) ⌝ }
 {
-    let mut bus = first;
+    let mut bus = first.bus;
     for i in 0..n {
         let reply = bus::calls::get(bus, ack_at(n, i));
         part[i] = reply.value as u8;
         bus = reply.bus;
     }
-    bus
+    Sent {
+        acks: first.acks,
+        bus: bus,
+    }
 }
 
 // The tail of the buffer that starts at the place is lent to the gets.
@@ -95,8 +78,8 @@ fn read_done(
     ensures { λ r. ⌜ now (buffer .exit) ≡ stored bus address control n place (now (buffer .entry)) ⌝ }
 {
     let sent = head(bus, address, control);
-    let last = get_all(sent.bus, n, &mut buffer[place..]);
-    crate::sent::stop(sent.acks, last)
+    let got = get_all(sent, n, &mut buffer[place..]);
+    crate::sent::stop(got)
 }
 
 pub fn read_message(

@@ -2,11 +2,10 @@
 use bus::Bus;
 use bus::Reply;
 ghost use mathlib.Core.Path.{_≡_};
+ghost use mathlib.Core.List.{[], _∷_};
 ghost use Prim.Native.Nat.{_+_, _≤_, _<_};
-ghost use Rattle.bus.specs.declared.Event.the-variants.{Start, Stop, Put};
-ghost use Rattle.bus.specs.Events.{stepReply};
-ghost use Rattle.bus.specs.Replies.{doneWith};
-ghost use Rattle.message.specs.Sent.{sentNext};
+ghost use Rattle.bus.specs.declared.SignalEvent.the-variants.{Start, Stop, Put};
+ghost use Rattle.message.specs.Sent.{sentBy, ended};
 
 pub struct Sent {
     pub acks: u64,
@@ -14,7 +13,7 @@ pub struct Sent {
 }
 
 pub fn start(sent: Sent) -> Sent
-    ensures { λ r. ⌜ r ≡ sentNext sent Start ⌝ }
+    ensures { λ r. ⌜ r ≡ sentBy sent (Start ∷ []) ⌝ }
     ensures { λ r. ⌜ r .acks ≡ sent .acks ⌝ }
 {
     let reply = bus::calls::start(sent.bus);
@@ -28,28 +27,21 @@ pub fn start(sent: Sent) -> Sent
 // A slice has fewer than 2^63 bytes, so the count of a message's puts fits.
 pub fn put(sent: Sent, byte: u64) -> Sent
     requires { ⌜ sent .acks < 18446744073709551615 ⌝ }
-    ensures { λ r. ⌜ r ≡ sentNext sent (Put byte) ⌝ }
+    ensures { λ r. ⌜ r ≡ sentBy sent (Put byte ∷ []) ⌝ }
     ensures { λ r. ⌜ r .acks ≤ sent .acks + 1 ⌝ }
 {
     let reply = bus::calls::put(sent.bus, byte);
     let bus = reply.bus;
-    if reply.value == 0 {
-        Sent {
-            acks: sent.acks,
-            bus: bus,
-        }
-    } else {
-        Sent {
-            acks: sent.acks + 1,
-            bus: bus,
-        }
+    Sent {
+        acks: sent.acks + reply.value,
+        bus: bus,
     }
 }
 
 // The STOP that ends a message.
-pub fn stop(acks: u64, bus: Bus) -> Reply
-    ensures { λ r. ⌜ r ≡ doneWith acks (stepReply bus Stop .bus) ⌝ }
+pub fn stop(sent: Sent) -> Reply
+    ensures { λ r. ⌜ r ≡ ended (sentBy sent (Stop ∷ [])) ⌝ }
 {
-    let reply = bus::calls::stop(bus);
-    bus::done(acks, reply.bus)
+    let reply = bus::calls::stop(sent.bus);
+    bus::done(sent.acks, reply.bus)
 }

@@ -2,27 +2,24 @@
 use crate::sent::Sent;
 use bus::Bus;
 use bus::Reply;
+use refusals::or_refused;
 ghost use mathlib.Core.Path.{_≡_};
 ghost use mathlib.Core.List.{map};
 ghost use Prim.Native.Nat.{_≤_};
-ghost use Rattle.bus.specs.declared.Event.the-variants.{Put};
-ghost use Rattle.bus.specs.Refusals.{codeOf};
-ghost use Rattle.message.specs.Message.{writeEvents, messageDone, writeRefusals, writeReply};
+ghost use Rattle.refusals.specs.Refusals.{codeOf};
+ghost use Rattle.bus.specs.declared.SignalEvent.the-variants.{Put};
+ghost use Rattle.message.specs.Message.{messageDone};
+ghost use Rattle.message.specs.Write.{writeEvents, writeRefusals, writeReply};
 ghost use Rattle.message.specs.Sent.{sentBy};
 
-fn write_code(bus: Bus, address: u64) -> u64
+// A read is refused with these numbers, too.
+pub(crate) fn write_code(bus: Bus, address: u64) -> u64
     ensures { λ r. ⌜ r ≡ codeOf (writeRefusals bus address) ⌝ }
 {
     let phase = bus.phase;
-    if bus::is_ok(bus) {
-        if protocol::signals::is_open(phase) {
-            5
-        } else {
-            if 127 < address { 7 } else { 0 }
-        }
-    } else {
-        4
-    }
+    let code = or_refused(0, 4, !bus::is_ok(bus));
+    let code = or_refused(code, 5, protocol::signals::is_open(phase));
+    or_refused(code, 7, 127 < address)
 }
 
 // Each lent byte in turn.
@@ -43,8 +40,7 @@ fn write_done(bus: Bus, address: u64, bytes: &[u8]) -> Reply
 {
     let started = crate::sent::start(Sent { acks: 0, bus: bus });
     let addressed = crate::sent::put(started, 2 * address);
-    let sent = put_all(addressed, bytes);
-    crate::sent::stop(sent.acks, sent.bus)
+    crate::sent::stop(put_all(addressed, bytes))
 }
 
 pub fn write_message(bus: Bus, address: u64, bytes: &[u8]) -> Reply

@@ -1,31 +1,33 @@
--- Events that are all in turn: each is done, on any well-formed bus; the events of both messages are such.
+-- Signals that are all in turn: each is done, on any well-formed bus; the events of both messages are such.
 use Prim.Native.Nat.{ℕ, zero, suc, _+_, _*_, _%_, _≤_, _<_}
-use mathlib.Core.Path.{_≡_, refl, sym, ap, _∙_}
-use mathlib.Core.Bool.{Bool, true}
+use mathlib.Core.Path.{_≡_, refl, sym}
+use mathlib.Core.Bool.{Bool, true, false}
 use mathlib.Core.List.{List, [], _∷_, _++_, map, append-assoc}
 use native.Mathlib.Omega.{arith}
 use lib.Dec.{ltb, eqb}
 use lib.ListN.{length}
 use borrow.Author.Tests.{ltb-true, ltb-false, lt-ltb, le-ltb, eq-eqb, ne-eqb, not-false}
+use Rattle.basics.specs.First.{all}
+use Rattle.basics.specs.Tabulate.{tabulate}
 use Rattle.basics.specs.laws.Logic.{and-left, and-right}
-use Rattle.device.specs.WellFormed.{isRead}
 use Rattle.device.specs.declared.Phase.{Phase}
 use Rattle.device.specs.declared.Phase.the-variants as P
-use Rattle.protocol.specs.Selection.{phaseAfterAddress}
-use Rattle.protocol.specs.Read.{phaseAfterGet}
-use Rattle.protocol.specs.Signals.{takesPut, isOpen, phaseAfterPut, phaseAfterSignal}
-use Rattle.basics.specs.First.{all}
-use Rattle.bus.specs.Refusals.{codeOf}
-use Rattle.bus.specs.Bus.{busOk}
+use Rattle.protocol.specs.Signals.{inTurn, phaseAfterSignal}
+use Rattle.refusals.specs.Refusals.{least, codeOf}
+use Rattle.refusals.specs.laws.Refusals.{NoneHolds}
+use Rattle.bus.specs.Bus.{busOk, busAfter}
+use Rattle.bus.specs.Signals.{signalOf, isTooLarge, signalRefusals}
 use Rattle.bus.specs.Events.{stepReply, stepRefusals, stepDone, runReplies}
-use Rattle.bus.specs.Promises.{step-is, step-code, step-well}
-use Rattle.bus.specs.laws.Refusals.{accepted}
+use Rattle.bus.specs.Promises.{step-well}
 use Rattle.bus.specs.laws.Replies.{answered}
 use Rattle.bus.specs.declared.Bus.{Bus}
-use Rattle.bus.specs.declared.Event.{Event}
-use Rattle.bus.specs.declared.Event.the-variants.{Start, Stop, Put, Get}
+use Rattle.bus.specs.declared.Event.the-variants.{Signal}
 use Rattle.bus.specs.declared.Reply.{Reply}
-use Rattle.message.specs.Message.{writeEvents, ackAt, getsOf, readEvents, writeRefusals, readRefusals}
+use Rattle.bus.specs.declared.SignalEvent.{SignalEvent}
+use Rattle.bus.specs.declared.SignalEvent.the-variants.{Start, Stop, Put, Get}
+use Rattle.message.specs.Write.{writeEvents, writeRefusals}
+use Rattle.message.specs.Read.{ackAt, getsOf, readEvents, readRefusals}
+use Rattle.message.specs.laws.Gets.{gets-suc}
 use Rattle.message.specs.laws.Buffer.{read-fits}
 
 abbrev pub isDone : Reply → Bool
@@ -34,75 +36,74 @@ isDone r = eqb (r .code) 0
 abbrev pub isByte : ℕ → Bool
 isByte x = ltb x 256
 
--- from a phase on, each event in turn, with a byte or an ack that can be
-data Turns : Phase → List Event → Type 0 where
-  none : {p : Phase} → Turns p []
-  start : {p : Phase} {l : List Event} → Turns P.Address l → Turns p (Start ∷ l)
-  stop : {p : Phase} {l : List Event} → isOpen p ≡ true → Turns P.Idle l → Turns p (Stop ∷ l)
-  put : {p : Phase} {l : List Event} {byte : ℕ} → takesPut p ≡ true → byte < 256 → Turns (phaseAfterPut p byte) l → Turns p (Put byte ∷ l)
-  get : {p : Phase} {l : List Event} {ack : ℕ} → isRead p ≡ true → ack < 2 → Turns (phaseAfterGet (eqb ack 1)) l → Turns p (Get ack ∷ l)
+-- from a phase on, each signal in turn, with a number that is not too large
+abbrev Turns : Phase → List SignalEvent → Type 0
+Turns p [] = Unit {0}
+Turns p (s ∷ l) =
+    (inTurn p (signalOf s) ≡ true) × (isTooLarge s ≡ false) × Turns (phaseAfterSignal p (signalOf s)) l
 
 -- ---- what is in turn is done
 
--- one event that no refusal holds of, and those after it
-next : (b : Bus) (e : Event) (l : List Event) → busOk b ≡ true → codeOf (stepRefusals b e) ≡ 0 → (busOk (stepDone b e .bus) ≡ true → all isDone (runReplies (stepDone b e .bus) l) ≡ true) → all isDone (runReplies b (e ∷ l)) ≡ true
-next b e l ok z rest =
-    let done : stepReply b e ≡ stepDone b e = step-is b e ∙ sym (answered (stepRefusals b e) b (stepDone b e) (stepDone b e) (codeOf (stepRefusals b e)) refl z refl) in
-    let well : busOk (stepDone b e .bus) ≡ true = rw done at (step-well b e ok) in
-    rw (eq-eqb (stepReply b e .code) 0 (step-code b e ∙ z), done) (rest well)
+in-turn-done : (b : Bus) (s : SignalEvent) → busOk b ≡ true → inTurn (b .phase) (signalOf s) ≡ true → isTooLarge s ≡ false → stepReply b (Signal s) ≡ stepDone b (Signal s)
+unfolding stepReply stepRefusals codeOf least
+in-turn-done b s ok t h = sym (answered (signalRefusals b s) b _ _ _ refl (rw (ok, t, h) refl) refl)
 
-turns-done : (b : Bus) {p : Phase} (l : List Event) → b .phase ≡ p → busOk b ≡ true → Turns p l → all isDone (runReplies b l) ≡ true
-unfolding stepRefusals stepDone codeOf phaseAfterSignal
-turns-done b [] e ok none = refl
-turns-done b (Start ∷ l) e ok (start t) = next b Start l ok (rw ok refl) (λ w. turns-done _ l refl w t)
-turns-done b (Stop ∷ l) e ok (stop o t) = next b Stop l ok (rw (ok, e, o) refl) (λ w. turns-done _ l refl w t)
-turns-done b (Put byte ∷ l) e ok (put o h t) =
-    next b (Put byte) l ok (rw (ok, e, o, le-ltb 255 byte (omega arith)) refl)
-    (λ w. turns-done _ l (ap (λ (q : Phase). phaseAfterPut q byte) e) w t)
-turns-done b (Get ack ∷ l) e ok (get o h t) =
-    next b (Get ack) l ok (rw (ok, e, o, le-ltb 1 ack (omega arith)) refl) (λ w. turns-done _ l refl w t)
+turns-done : (b : Bus) (l : List SignalEvent) → busOk b ≡ true → Turns (b .phase) l → all isDone (runReplies b (map Signal l)) ≡ true
+unfolding stepDone
+turns-done b [] ok t = refl
+turns-done b (s ∷ l) ok t =
+    let done : stepReply b (Signal s) ≡ stepDone b (Signal s) = in-turn-done b s ok (t .0) (t .1) in
+    rw done (turns-done (busAfter (signalOf s) b) l (rw done at (step-well b (Signal s) ok)) (t .2))
 
 -- ---- the messages
 
 puts-turn : (bytes : List ℕ) → all isByte bytes ≡ true → Turns P.Write (map Put bytes ++ Stop ∷ [])
-puts-turn [] h = stop refl none
+unfolding phaseAfterSignal
+puts-turn [] h = (refl, refl, tt)
 puts-turn (x ∷ l) h =
-    put refl (ltb-true x 256 (and-left (isByte x) (all isByte l) h)) (puts-turn l (and-right (isByte x) (all isByte l) h))
+    let byte = ltb-true x 256 (and-left (isByte x) (all isByte l) h) in
+    (refl, le-ltb 255 x (omega arith), puts-turn l (and-right (isByte x) (all isByte l) h))
 
 -- the gets that are not the last, and all of them
-gets-turn : (n k : ℕ) (m : List Event) → k < n → Turns P.Read m → Turns P.Read (getsOf n k ++ m)
-unfolding getsOf
+gets-turn : (n k : ℕ) (m : List SignalEvent) → k < n → Turns P.Read m → Turns P.Read (getsOf n k ++ m)
+unfolding getsOf tabulate phaseAfterSignal
 gets-turn n zero m h t = t
 gets-turn n (suc k) m h t =
-    rw append-assoc
-    (gets-turn n k (Get (ackAt n k) ∷ m) (omega arith) (rw (lt-ltb (k + 1) n (omega arith)) (get {ack = 1} refl (omega arith) t)))
+    rw (gets-suc, append-assoc)
+    (gets-turn n k (Get (ackAt n k) ∷ m) (omega arith) (rw (lt-ltb (k + 1) n (omega arith)) (refl, refl, t)))
 
 all-gets-turn : (n : ℕ) → 0 < n → Turns P.Read (getsOf n n ++ Stop ∷ [])
-unfolding getsOf
+unfolding phaseAfterSignal
 all-gets-turn zero h = absurd (omega arith)
 all-gets-turn (suc k) h =
-    rw append-assoc
-    (gets-turn (suc k) k (Get (ackAt (suc k) k) ∷ Stop ∷ []) (omega arith) (rw (le-ltb (k + 1) (suc k) (omega arith)) (get {ack = 0} refl (omega arith) (stop refl none))))
+    rw (gets-suc, append-assoc)
+    (gets-turn (suc k) k (Get (ackAt (suc k) k) ∷ Stop ∷ []) (omega arith) (rw (le-ltb (k + 1) (suc k) (omega arith)) (refl, refl, (refl, refl, tt))))
 
 -- an address byte, for a write and for a read
-address-turn : (byte : ℕ) (l : List Event) → byte < 256 → Turns (phaseAfterAddress byte) l → Turns P.Address (Put byte ∷ l)
-address-turn byte l h t = put {p = P.Address} refl h t
+module _ (address : ℕ) (l : List SignalEvent) (h : address ≤ 127) where
+  write-turn : Turns P.Write l → Turns P.Address (Put (2 * address) ∷ l)
+  unfolding phaseAfterSignal
+  write-turn t = (refl, le-ltb 255 (2 * address) (omega arith), rw (eq-eqb (2 * address % 2) 0 (omega arith)) t)
 
-write-turn : (address : ℕ) (l : List Event) → address ≤ 127 → Turns P.Write l → Turns P.Address (Put (2 * address) ∷ l)
-write-turn address l h t = address-turn (2 * address) l (omega arith) (rw (eq-eqb (2 * address % 2) 0 (omega arith)) t)
-
-read-turn : (address : ℕ) (l : List Event) → address ≤ 127 → Turns P.Read l → Turns P.Address (Put (2 * address + 1) ∷ l)
-read-turn address l h t = address-turn (2 * address + 1) l (omega arith) (rw (ne-eqb ((2 * address + 1) % 2) 0 (λ e. omega arith)) t)
+  read-turn : Turns P.Read l → Turns P.Address (Put (2 * address + 1) ∷ l)
+  unfolding phaseAfterSignal
+  read-turn t =
+      (refl, le-ltb 255 (2 * address + 1) (omega arith), rw (ne-eqb ((2 * address + 1) % 2) 0 (λ e. omega arith)) t)
 
 module _ (b : Bus) (address : ℕ) where
-  pub write-done : (bytes : List ℕ) → all isByte bytes ≡ true → codeOf (writeRefusals b address) ≡ 0 → all isDone (runReplies b (writeEvents address bytes)) ≡ true
-  write-done bytes h e =
-      let n = accepted 0 (writeRefusals b address) refl e in
-      let few : address ≤ 127 = ltb-false 127 address (n .1 .1 .0) in
-      turns-done b (writeEvents address bytes) refl (not-false (busOk b) (n .0)) (start (write-turn address _ few (puts-turn bytes h)))
+  pub write-done : (bytes : List ℕ) → all isByte bytes ≡ true → NoneHolds (writeRefusals b address) → all isDone (runReplies b (map Signal (writeEvents address bytes))) ≡ true
+  unfolding phaseAfterSignal
+  write-done bytes h none =
+      let small : address ≤ 127 = ltb-false 127 address (none .1 .1 .0) in
+      turns-done b (writeEvents address bytes) (not-false (busOk b) (none .0))
+      (refl, refl, write-turn address (map Put bytes ++ Stop ∷ []) small (puts-turn bytes h))
 
-  pub read-done : (control n place : ℕ) (buffer : List ℕ) → codeOf (readRefusals b address control n place (length buffer)) ≡ 0 → all isDone (runReplies b (readEvents address control n)) ≡ true
-  read-done control n place buffer e =
-      let h = read-fits b address control n place buffer e in
-      turns-done b (readEvents address control n) refl (h .well)
-      (start (write-turn address _ (h .seven-bits) (put refl (omega arith) (start (read-turn address _ (h .seven-bits) (all-gets-turn n (h .some)))))))
+  pub read-done : (control n place : ℕ) (buffer : List ℕ) → NoneHolds (readRefusals b address control n place (length buffer)) → all isDone (runReplies b (map Signal (readEvents address control n))) ≡ true
+  unfolding phaseAfterSignal
+  read-done control n place buffer none =
+      let h = read-fits b address control n place buffer none in
+      let gets = getsOf n n ++ Stop ∷ [] in
+      let read = read-turn address gets (h .seven-bits) (all-gets-turn n (h .some)) in
+      let tail = Put control ∷ Start ∷ Put (2 * address + 1) ∷ gets in
+      turns-done b (readEvents address control n) (h .well)
+      (refl, refl, write-turn address tail (h .seven-bits) (refl, le-ltb 255 control (h .eight-bits), (refl, refl, read)))

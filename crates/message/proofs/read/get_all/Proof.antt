@@ -1,59 +1,51 @@
+-- The loop: the first i bytes of the part are got, the others as they were.
 use Prim.Native.Nat.{_-_, _≤_}
 use mathlib.Core.Path.{_≡_}
-use mathlib.Core.List.{_++_}
+use mathlib.Core.List.{_++_, map}
 use native.Mathlib.Omega.{arith}
 use lib.ListN.{length, drop}
 use borrow.Author.Needs.{needs}
 use Rattle.bus.specs.Events.{runBus}
-use Rattle.message.specs.Message.{getsOf}
-use Rattle.message.specs.Sent.{valuesOf}
-use Rattle.message.specs.laws.Gets.{get-byte, gets-none, run-more, got-more, gets-done}
+use Rattle.bus.specs.declared.Event.the-variants.{Signal}
+use Rattle.message.specs.Read.{getsOf, valuesOf}
+use Rattle.message.specs.laws.Values.{get-value}
+use Rattle.message.specs.laws.Gets.{gets-none, run-more, got-more, gets-done}
 use Rattle.message.proofs.read.get_all.Statement.{statement}
 use Rattle.message.proofs.read.get_all.Tie as tie
 
 abbrev Inv-loop : tie.InvT-loop
-Inv-loop n part₀ bus₀ i₀ part bus i =
-    (i ≤ n) × (length part ≡ length part₀) × (bus ≡ runBus bus₀ (getsOf n i)) × (part ≡ valuesOf bus₀ (getsOf n i) ++ drop i part₀)
+Inv-loop first n part₀ bus₀ i₀ part bus i =
+    (i ≤ n) × (length part ≡ length part₀) × (bus ≡ runBus (first .bus) (map Signal (getsOf n i))) × (part ≡ valuesOf (first .bus) (getsOf n i) ++ drop i part₀)
 
 abbrev μ-loop : tie.MeasureT-loop
-μ-loop n part₀ bus₀ i₀ part bus i = n - i
+μ-loop first n part₀ bus₀ i₀ part bus i = n - i
 
 loop-holds : tie.Need-loop-holds Inv-loop μ-loop
 loop-holds c =
-    let z = gets-none (c .before .args .n) (c .before .args .first) (c .before .args .part .now) in
+    let a = c .before .before .args in
+    let z = gets-none (a .n) (a .first .bus) (a .part .now) in
     (search needs, search needs, z .0, z .1)
 
 cast-part : tie.Need-cast-part Inv-loop μ-loop
-cast-part c = omega (arith, get-byte _ _ _ (c .before .get .ensures))
+cast-part c = omega (arith, get-value _ _ _ (c .before .get .ensures))
 
 loop-again : tie.Need-loop-again Inv-loop μ-loop
 loop-again c =
     let at = c .before .before .before .before .before in
-    let start = at .before .before in
+    let a = at .before .before .before .args in
     let ack = c .before .before .before .ack-at .ensures in
     let got = c .before .before .get .ensures in (
       search needs,
       search needs,
-      run-more (start .args .n) (start .args .first) _ (at .loop .i) _ _ (at .loop .inv .2) ack got,
-      got-more (start .args .n) (start .args .first) _ (at .loop .i) _ _ (at .loop .inv .2) ack got (start .args .part .now) _ (search needs) (at .loop .inv .3),
+      run-more (a .n) (a .first .bus) _ (at .loop .i) _ _ (at .loop .inv .2) ack got,
+      got-more (a .n) (a .first .bus) _ (at .loop .i) _ _ (at .loop .inv .2) ack got (a .part .now) _ (search needs) (at .loop .inv .3),
     )
 
 returns : tie.Need-returns Inv-loop μ-loop
-returns c = gets-done (c .before .before .before .args .n) (c .before .before .before .args .first) _ (c .before .before .before .args .part .now) _ (c .before .loop .i) (search needs) (search needs) (c .before .loop .inv .2) (c .before .loop .inv .3)
+returns c =
+    let at = c .before in
+    let a = at .before .before .before .args in
+    gets-done (a .n) (a .first) _ (a .part .now) _ (at .loop .i) (search needs) (search needs) (at .loop .inv .2) (at .loop .inv .3)
 
 pub get-all-spec : {M : Type 1} → statement M
-get-all-spec =
-    tie.close
-    (tie.spec
-    Inv-loop
-    μ-loop
-    loop-holds
-    (λ c κs. search needs)
-    (λ c κs. search needs)
-    cast-part
-    (λ c. search needs)
-    (λ c. search needs)
-    (λ c. search needs)
-    loop-again
-    (λ c. search needs)
-    returns)
+get-all-spec = tie.close (tie.spec Inv-loop μ-loop loop-holds (λ c κs. search needs) (λ c κs. search needs) cast-part (λ c. search needs) (λ c. search needs) (λ c. search needs) loop-again (λ c. search needs) returns)

@@ -1,19 +1,22 @@
+-- A put's value is what it adds, at most 1.
 use native.Mathlib.Nat.{add-zero}
+use native.Mathlib.Omega.{arith}
 use mathlib.Core.Path.{refl}
-use borrow.Author.Tests.{eq-eqb, ne-eqb}
-use Rattle.bus.specs.Events.{stepReply}
-use Rattle.message.specs.Sent.{sentNext}
+use Rattle.message.specs.Message.{ackedPuts}
+use Rattle.message.specs.Sent.{sentBy}
+use Rattle.message.specs.laws.Values.{put-value}
 use borrow.Author.Needs.{needs}
 use Rattle.message.proofs.sent.put.Statement.{statement}
 use Rattle.message.proofs.sent.put.Tie as tie
 
-returns : tie.Need-returns
-unfolding sentNext stepReply
-returns c = (rw (← c .before .before .before .put .ensures, eq-eqb _ _ (c .if1 .taken), add-zero) refl, search needs)
+add-t5 : tie.Need-add-t5
+add-t5 c = omega (arith, put-value _ _ _ (c .before .before .before .put .ensures))
 
-returns-2 : tie.Need-returns-2
-unfolding sentNext stepReply
-returns-2 c = (rw (← c .before .before .before .before .put .ensures, ne-eqb _ _ (c .before .if1 .left)) refl, search needs)
+returns : tie.Need-returns
+unfolding sentBy ackedPuts
+returns c =
+    let put = c .before .before .before .put .ensures in
+    (rw (put, add-zero) refl, omega (arith, put-value _ _ _ put))
 
 pub put-spec : {M : Type 1} → statement M
-put-spec = tie.close (tie.spec (λ c κs. search needs) (λ c. search needs) returns returns-2)
+put-spec = tie.close (tie.spec (λ c κs. search needs) add-t5 returns)

@@ -1,10 +1,11 @@
+-- The loop: the first i bytes are put.
 use Prim.Native.Nat.{_+_, _-_, _≤_}
 use mathlib.Core.Path.{_≡_}
 use mathlib.Core.List.{map}
 use native.Mathlib.Omega.{arith}
 use lib.ListN.{length, take}
 use borrow.Author.Needs.{needs}
-use Rattle.bus.specs.declared.Event.the-variants.{Put}
+use Rattle.bus.specs.declared.SignalEvent.the-variants.{Put}
 use Rattle.message.specs.laws.Sent.{puts-none, puts-more, puts-done}
 use Rattle.message.specs.Sent.{sentBy}
 use Rattle.message.proofs.write.put_all.Statement.{statement}
@@ -36,16 +37,4 @@ returns : tie.Need-returns Inv-loop μ-loop
 returns c = puts-done _ _ (c .before .before .before .args .bytes .now) (c .before .loop .i) (search needs) (c .before .loop .inv .3)
 
 pub put-all-spec : {M : Type 1} → statement M
-put-all-spec =
-    tie.close
-    (tie.spec
-    Inv-loop
-    μ-loop
-    loop-holds
-    (λ c. search needs)
-    cast-put
-    (λ c κs. search needs)
-    (λ c. search needs)
-    (λ c. search needs)
-    loop-again
-    returns)
+put-all-spec = tie.close (tie.spec Inv-loop μ-loop loop-holds (λ c. search needs) cast-put (λ c κs. search needs) (λ c. search needs) (λ c. search needs) loop-again returns)
