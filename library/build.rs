@@ -1,4 +1,4 @@
-//! Links the archive that `rt staticlib lamptwin_c` makes.
+//! Links the archive that `./build library` makes.
 
 use std::path::Path;
 use std::{env, fs};
@@ -8,7 +8,7 @@ fn main() {
     let folder = Path::new(&package).join("../target/staticlib");
     let archive = folder.join("liblamptwin_c.a");
     if fs::metadata(&archive).is_err() {
-        panic!("target/staticlib/liblamptwin_c.a is missing; `rt staticlib lamptwin_c` makes it");
+        panic!("target/staticlib/liblamptwin_c.a is missing; `./build library` makes it");
     }
     println!("cargo:rerun-if-changed={}", archive.display());
     println!("cargo:rustc-link-search=native={}", folder.display());
