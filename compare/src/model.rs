@@ -1,6 +1,7 @@
 //! The twin as plain structs changed in place: one bus, up to eight devices.
 //!
-//! Sentences in quotation marks are those of the rules paper (01).
+//! Sentences in quotation marks are those of the owner's rules paper, which
+//! docs/RULES.md condenses.
 
 /// Most devices on a bus.
 pub const MAX_DEVICES: usize = 8;

@@ -1,5 +1,5 @@
-//! The listing and the marked examples of the rules paper, as text. Example 12
-//! has no text line.
+//! The owner's worked log and the marked examples of docs/RULES.md, as text.
+//! Example 12 has no text line.
 
 use compare::text;
 

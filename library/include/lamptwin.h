@@ -1,7 +1,7 @@
 /* The lamp twin as a static library: the answers to a whole log of bus events, from an empty bus.
  *
- * Link with libffi.a (made by `rt staticlib ffi`). Nothing checks these declarations against the source, crates/ffi/src/lib.rt;
- * the tests under library/ do. No call keeps a pointer, allocates, or depends on an earlier call. */
+ * Link with liblamptwin_c.a (made by `./build library`). Nothing checks these declarations against the source,
+ * crates/lamptwin_c/src/lib.rt; the tests under library/ do. No call keeps a pointer, allocates, or depends on an earlier call. */
 #ifndef LAMPTWIN_H
 #define LAMPTWIN_H
 

@@ -1,6 +1,6 @@
-//! Worked examples of the data sheets and of the rules paper, 01, on lamps and pins: 000 is the
-//! PCA9635, 003 its output table, 004 the PCA9634, 001 the PCA9531, 002 the PCA9551. A pin is 0
-//! for VSS, 1 for VDD, 2 for high-Z.
+//! Worked examples of the data sheets and of docs/RULES.md on lamps and pins: 000 is the PCA9635,
+//! 003 its output table, 004 the PCA9634, 001 the PCA9531, 002 the PCA9551. A pin is 0 for VSS, 1
+//! for VDD, 2 for high-Z.
 
 mod log;
 
@@ -69,9 +69,9 @@ fn programming_example_registers() {
     }
 }
 
-/// Both blinks start together after 256 times the least common multiple of 152 and 1 (01, "When a
-/// lamp is lit"): at every step, LED4 shows BLINK0 and LED6 BLINK1, and a blink starts where its
-/// pin goes low.
+/// Both blinks start together after 256 times the least common multiple of 152 and 1 (RULES,
+/// Lamps): at every step, LED4 shows BLINK0 and LED6 BLINK1, and a blink starts where its pin goes
+/// low.
 #[test]
 fn programming_example_blinks_meet() {
     let steps = 2 * SECOND as usize;
@@ -199,7 +199,7 @@ fn outputs_when_enabled() {
     }
 }
 
-/// 000, table 13; 004, table 14; OUTNE 11 by 01's house rule. INVRT plays no part.
+/// 000, table 13; 004, table 14; OUTNE 11 by the house rule (RULES, Pins). INVRT plays no part.
 #[test]
 fn outputs_when_disabled() {
     // OUTNE, INVRT, OUTDRV, level
@@ -346,7 +346,7 @@ fn blinker_period() {
     }
 }
 
-/// 01, examples 7 to 9, and the edges of the two bounds. With M: above at t = 0 and
+/// RULES, Marked examples, 7 to 9, and the edges of the two bounds. With M: above at t = 0 and
 /// w = 512M - 256 + N, below from there on at w = 131,328 - 512M - N.
 #[test]
 fn lit_in_a_window() {
@@ -371,7 +371,7 @@ fn lit_in_a_window() {
     }
 }
 
-/// 01, examples 10 and 11: output 0 in BLINK0.
+/// RULES, Marked examples, 10 and 11: output 0 in BLINK0.
 #[test]
 fn blinker_lit_in_a_window() {
     // PSC0, PWM0, steps, lit; FFh is the PCA9551's PSC0 after reset

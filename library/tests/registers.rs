@@ -1,5 +1,5 @@
 //! Worked examples of the data sheets on addresses and registers: 000 is the PCA9635, 004 the
-//! PCA9634, 001 the PCA9531, 002 the PCA9551; 01 is the rules paper.
+//! PCA9634, 001 the PCA9531, 002 the PCA9551; RULES is docs/RULES.md.
 
 mod log;
 
@@ -39,7 +39,7 @@ const PCA9634: Sheet = Sheet {
     ..PCA9635
 };
 
-// 001, section 6.3, with PSC0 as 01 has it
+// 001, section 6.3, with PSC0 as RULES has it
 const PCA9531: Sheet = Sheet {
     chip: 9531,
     pins: 7,
@@ -64,8 +64,8 @@ impl Sheet {
         self.all == 0x80
     }
 
-    /// What a driver's register shows of a byte written to it (01, register maps). A blinker's
-    /// registers have no read-only bits; INPUT is another matter.
+    /// What a driver's register shows of a byte written to it (RULES, Driver registers). A
+    /// blinker's registers have no read-only bits; INPUT is another matter.
     fn shown(&self, register: usize, byte: u8, control: u8) -> u8 {
         let subadr1 = self.fresh.len() - 4;
         match register {
