@@ -11,8 +11,10 @@ ghost use Rattle.device.specs.Fields.{withControl};
 ghost use Rattle.device.specs.Reset.{fresh};
 ghost use Rattle.device.specs.declared.Phase.the-variants.{Idle};
 ghost use Rattle.bus.specs.Bus.{emptyBus, deviceAt, withDevice};
-ghost use Rattle.bus.specs.Replies.{addReply, startReply, stopReply, putReply, waitReply};
-ghost use Rattle.message.specs.Message.{writeReply};
+ghost use Rattle.bus.specs.Events.{stepReply, putReply, waitReply};
+ghost use Rattle.bus.specs.declared.Event.the-variants.{Add, Signal};
+ghost use Rattle.bus.specs.declared.SignalEvent.the-variants.{Start, Stop};
+ghost use Rattle.message.specs.Write.{writeReply};
 
 pub fn after(reply: Reply) -> Bus
     ensures { λ r. ⌜ r ≡ reply .bus ⌝ }
@@ -22,14 +24,14 @@ pub fn after(reply: Reply) -> Bus
 }
 
 pub fn added(bus: Bus, chip: u64, address: u64) -> Bus
-    ensures { λ r. ⌜ r ≡ addReply bus chip address .bus ⌝ }
+    ensures { λ r. ⌜ r ≡ stepReply bus (Add chip address) .bus ⌝ }
 {
     after(bus::calls::add(bus, chip, address))
 }
 
 // A bus with one fresh device.
 pub fn one(chip: u64, address: u64) -> Bus
-    ensures { λ r. ⌜ r ≡ addReply emptyBus chip address .bus ⌝ }
+    ensures { λ r. ⌜ r ≡ stepReply emptyBus (Add chip address) .bus ⌝ }
 {
     added(bus::empty(), chip, address)
 }
@@ -73,7 +75,7 @@ pub fn controlled(chip: Chip, address: u8, control: u8) -> Device
 
 // A START and an address byte.
 pub fn addressed(bus: Bus, byte: u64) -> Bus
-    ensures { λ r. ⌜ r ≡ putReply (startReply bus .bus) byte .bus ⌝ }
+    ensures { λ r. ⌜ r ≡ putReply (stepReply bus (Signal Start) .bus) byte .bus ⌝ }
 {
     put(after(bus::calls::start(bus)), byte)
 }
@@ -85,7 +87,7 @@ pub fn put(bus: Bus, byte: u64) -> Bus
 }
 
 pub fn stopped(bus: Bus) -> Bus
-    ensures { λ r. ⌜ r ≡ stopReply bus .bus ⌝ }
+    ensures { λ r. ⌜ r ≡ stepReply bus (Signal Stop) .bus ⌝ }
 {
     after(bus::calls::stop(bus))
 }

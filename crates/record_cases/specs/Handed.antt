@@ -13,7 +13,7 @@ use Rattle.device.specs.declared.Stage.{Stage}
 use Rattle.device.specs.declared.Stage.the-variants.{Control, Data, ResetFirst}
 use Rattle.bus.specs.Bus.{emptyBus, withDevice}
 use Rattle.bus.specs.declared.Bus.{Bus}
-use Rattle.message.specs.Message.{writeReply}
+use Rattle.message.specs.Write.{writeReply}
 
 abbrev pub busIn : Phase → ℕ → Bus
 busIn p n = record { phase = p; count = n; devices = emptyBus .devices }

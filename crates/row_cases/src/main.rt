@@ -1,5 +1,5 @@
 // The calls on lent records, a line for each: what is handed in, and what comes back. Control bytes are in hexadecimal.
-use bus::Event;
+use bus::SignalEvent;
 use cases::line;
 use chip::Chip;
 use device::Device;
@@ -8,7 +8,7 @@ use row::RowReply;
 use row::Rowed;
 ghost use mathlib.Core.Path.{_≡_};
 ghost use Rattle.device.specs.declared.Phase.the-variants.{Idle};
-ghost use Rattle.bus.specs.declared.Event.the-variants.{Start, Stop, Put};
+ghost use Rattle.bus.specs.declared.SignalEvent.the-variants.{Start, Stop, Put};
 ghost use Rattle.row_cases.specs.Chain.{nextOf};
 
 // 2^48
@@ -51,19 +51,16 @@ fn phase(phase: Phase) {
     }
 }
 
-// The events of a row, and one that is none.
-fn name(event: Event) {
+fn name(event: SignalEvent) {
     match event {
-        Event::Start => line::text(b"start"),
-        Event::Stop => line::text(b"stop"),
-        Event::Put(byte) => line::named(b"put ", byte),
-        Event::Get(ack) => line::named(b"get ", ack),
-        Event::Reset { dev } => line::named(b"reset ", dev),
-        _ => line::text(b"another"),
+        SignalEvent::Start => line::text(b"start"),
+        SignalEvent::Stop => line::text(b"stop"),
+        SignalEvent::Put(byte) => line::named(b"put ", byte),
+        SignalEvent::Get(ack) => line::named(b"get ", ack),
     }
 }
 
-fn handed(n: usize, before: Phase, event: Event) {
+fn handed(n: usize, before: Phase, event: SignalEvent) {
     line::named(b"row of ", n as u64);
     line::text(b" in ");
     phase(before);
@@ -99,7 +96,7 @@ fn idle(devices: [Device; 9]) -> Rowed
     }
 }
 
-fn event(r: Rowed, n: usize, event: Event) -> Rowed
+fn event(r: Rowed, n: usize, event: SignalEvent) -> Rowed
     ensures { λ next. ⌜ next ≡ nextOf r n event ⌝ }
 {
     let devices = r.devices;
@@ -115,37 +112,36 @@ fn event(r: Rowed, n: usize, event: Event) -> Rowed
 fn message(r: Rowed, n: usize, byte: u64) -> Rowed
     ensures { λ next. ⌜ next ≡ nextOf (nextOf (nextOf r n Start) n (Put byte)) n Stop ⌝ }
 {
-    let r = event(r, n, Event::Start);
-    let r = event(r, n, Event::Put(byte));
-    event(r, n, Event::Stop)
+    let r = event(r, n, SignalEvent::Start);
+    let r = event(r, n, SignalEvent::Put(byte));
+    event(r, n, SignalEvent::Stop)
 }
 
 // A PCA9635 and a PCA9531, then only PCA9635s; each event on the row that the one before left.
 fn rows(devices: [Device; 9]) {
-    let r = event(idle(devices), 2, Event::Put(32));
-    let r = event(r, 2, Event::Start);
-    let selected = event(r, 2, Event::Put(32));
-    let r = event(selected, 2, Event::Put(256));
-    let r = event(r, 2, Event::Put(129));
-    let r = event(r, 2, Event::Start);
-    let r = event(r, 2, Event::Put(33));
-    let r = event(r, 2, Event::Get(1));
-    let r = event(r, 2, Event::Get(2));
-    let r = message(event(r, 2, Event::Stop), 2, 196);
+    let r = event(idle(devices), 2, SignalEvent::Put(32));
+    let r = event(r, 2, SignalEvent::Start);
+    let selected = event(r, 2, SignalEvent::Put(32));
+    let r = event(selected, 2, SignalEvent::Put(256));
+    let r = event(r, 2, SignalEvent::Put(129));
+    let r = event(r, 2, SignalEvent::Start);
+    let r = event(r, 2, SignalEvent::Put(33));
+    let r = event(r, 2, SignalEvent::Get(1));
+    let r = event(r, 2, SignalEvent::Get(2));
+    let r = message(event(r, 2, SignalEvent::Stop), 2, 196);
     let r = message(message(r, 0, 32), 8, 32);
-    let r = event(r, 9, Event::Start);
-    let r = event(r, 10, Event::Start);
-    event(r, 2, Event::Reset { dev: 0 });
+    let r = event(r, 9, SignalEvent::Start);
+    event(r, 10, SignalEvent::Start);
     let listening = selected.devices;
     line::text(b"one listening, ");
-    event(idle(listening), 2, Event::Start);
+    event(idle(listening), 2, SignalEvent::Start);
 }
 
 fn illegal_control(devices: [Device; 9]) {
     let mut next = devices;
     next[0].control = 0x20;
     line::text(b"one illegal, ");
-    event(idle(next), 2, Event::Start);
+    event(idle(next), 2, SignalEvent::Start);
 }
 
 fn main() {
