@@ -1,9 +1,8 @@
 -- Promises on the lent forms, for any record and any row: they answer as the calls on a bus do.
 use mathlib.Core.Path.{_≡_, refl, sym, ap, _∙_}
 use mathlib.Core.Bool.{Bool, true, false, not, _&&_, cond, false≢true}
-use mathlib.Core.List.{List, [], _∷_, _++_, map}
-use Prim.Native.Nat.{ℕ, zero, suc, _≤_, _<_}
-use native.Mathlib.Nat.{le-of-suc-le-suc}
+use mathlib.Core.List.{List, [], _∷_, map}
+use Prim.Native.Nat.{ℕ, _≤_, _<_}
 use native.Mathlib.Omega.{arith}
 use lib.Dec.{leb, ltb, eqb}
 use lib.ListN.{length, take, drop}
@@ -22,7 +21,7 @@ use Rattle.protocol.specs.Signals.{inTurn, phaseAfterSignal, afterSignal}
 use Rattle.protocol.specs.declared.Signal.the-variants as S
 use Rattle.basics.specs.laws.First.{map-firsts}
 use Rattle.basics.specs.Bits.{mask, maskFirst}
-use Rattle.basics.specs.First.{mapFirst, allFirst, andFirst, all, andOf}
+use Rattle.basics.specs.First.{allFirst, andFirst, all, andOf}
 use Rattle.bus.specs.Bus.{busOk, hasDevice, deviceAt, emptyBus}
 use Rattle.bus.specs.Refusals.{Refusal, refuse, codeOf, risesFrom}
 use Rattle.bus.specs.laws.Refusals.{Exact, exact}
