@@ -15,36 +15,36 @@ use Rattle.protocol.specs.Write.{afterControl, effectiveAfterData, after
 use Rattle.protocol.specs.Put.{afterPut}
 use Rattle.protocol.specs.Read.{isTalking, afterTalk, afterGet}
 
-stored-same : (byte : ℕ) (d : Device) → isOch d ≡ false → afterData byte d .effective ≡ d .effective
+data-same : (byte : ℕ) (d : Device) → isOch d ≡ false → afterData byte d .effective ≡ d .effective
 unfolding afterData effectiveAfterData
-stored-same byte d o = rw (o, and-false (isBuffered (d .chip) (pointer d) && isAwake d)) refl
+data-same byte d o = rw (o, and-false (isBuffered (d .chip) (pointer d) && isAwake d)) refl
 
-pointed-same : (byte : ℕ) (d : Device) → afterControl byte d .effective ≡ d .effective
+control-same : (byte : ℕ) (d : Device) → afterControl byte d .effective ≡ d .effective
 unfolding afterControl
-pointed-same byte d = elim (tested (controlLegal (d .chip) byte)) [ holds e ↦ rw e | fails e ↦ rw e ]
+control-same byte d = elim (tested (controlLegal (d .chip) byte)) [ holds e ↦ rw e | fails e ↦ rw e ]
 
-taken-same : (byte : ℕ) (d : Device) (s : Stage) → isOch d ≡ false → afterByteAt s byte d .effective ≡ d .effective
-taken-same byte d Unselected o = refl
-taken-same byte d Control o = pointed-same byte d
-taken-same byte d Data o = stored-same byte d o
-taken-same byte d Talking o = refl
-taken-same byte d ResetCall o = refl
-taken-same byte d ResetFirst o = refl
-taken-same byte d ResetBoth o = refl
+byte-same : (byte : ℕ) (d : Device) (s : Stage) → isOch d ≡ false → afterByteAt s byte d .effective ≡ d .effective
+byte-same byte d Unselected o = refl
+byte-same byte d Control o = control-same byte d
+byte-same byte d Data o = data-same byte d o
+byte-same byte d Talking o = refl
+byte-same byte d ResetCall o = refl
+byte-same byte d ResetFirst o = refl
+byte-same byte d ResetBoth o = refl
 
 pub put-same : (p : Phase) (byte : ℕ) (d : Device) → isOch d ≡ false → afterPut p byte d .effective ≡ d .effective
 unfolding afterPut afterByte
 put-same P.Address byte d o = refl
-put-same P.Write byte d o = taken-same byte d (d .stage) o
+put-same P.Write byte d o = byte-same byte d (d .stage) o
 put-same P.Idle byte d o = refl
 put-same P.Read byte d o = refl
 put-same P.Ended byte d o = refl
 
-moved-same : (d : Device) → afterTalk d .effective ≡ d .effective
+talk-same : (d : Device) → afterTalk d .effective ≡ d .effective
 unfolding afterTalk
-moved-same d = elim (tested (isTalking (d .stage))) [ holds e ↦ rw e | fails e ↦ rw e ]
+talk-same d = elim (tested (isTalking (d .stage))) [ holds e ↦ rw e | fails e ↦ rw e ]
 
 pub get-same : (ack : Bool) (d : Device) → afterGet ack d .effective ≡ d .effective
 unfolding afterGet
-get-same true d = moved-same d
-get-same false d = moved-same d
+get-same true d = talk-same d
+get-same false d = talk-same d

@@ -46,17 +46,17 @@ addressed-well byte d h =
     well (phaseAfterAddress byte) (afterPut P.Address byte d) (ok d h)
     (stage-fits (eqb (byte / 2) 3) (eqb (byte % 2) 0) (isDriver (d .chip)) (answers d (byte / 2)))
 
-pointed-well : (byte : ℕ) (d : Device) → recordOk d ≡ true → WellIn P.Write (afterControl byte d)
+control-well : (byte : ℕ) (d : Device) → recordOk d ≡ true → WellIn P.Write (afterControl byte d)
 unfolding afterControl
-pointed-well byte d h =
+control-well byte d h =
     elim (tested (controlLegal (d .chip) byte)) [
       | holds e ↦ rw e (well P.Write (withControl (withStage d Data) byte) (record { legal = e; allowed = ok d h .allowed; within = ok d h .within }) refl)
       | fails e ↦ rw e (well P.Write (withStage d Unselected) (ok d h) refl)
     ]
 
-stored-well : (byte : ℕ) (d : Device) → WellIn P.Write d → WellIn P.Write (afterData byte d)
+data-well : (byte : ℕ) (d : Device) → WellIn P.Write d → WellIn P.Write (afterData byte d)
 unfolding afterData countAfterData
-stored-well byte d h =
+data-well byte d h =
     let o = ok d (well-formed-ok P.Write d h) in
     well P.Write (afterData byte d) (
     record {
@@ -73,24 +73,24 @@ call-well due byte d s h f =
       | fails e ↦ rw e (well P.Write (withStage d Unselected) (ok d h) refl)
     ]
 
-taken-well : (byte : ℕ) (d : Device) (s : Stage) → WellIn P.Write d → WellIn P.Write (afterByteAt s byte d)
-taken-well byte d Unselected h = h
-taken-well byte d Control h = pointed-well byte d (well-formed-ok P.Write d h)
-taken-well byte d Data h = stored-well byte d h
-taken-well byte d Talking h = h
-taken-well byte d ResetCall h = call-well 165 byte d ResetFirst (well-formed-ok P.Write d h) refl
-taken-well byte d ResetFirst h = call-well 90 byte d ResetBoth (well-formed-ok P.Write d h) refl
-taken-well byte d ResetBoth h = well P.Write (withStage d Unselected) (ok d (well-formed-ok P.Write d h)) refl
+byte-well : (byte : ℕ) (d : Device) (s : Stage) → WellIn P.Write d → WellIn P.Write (afterByteAt s byte d)
+byte-well byte d Unselected h = h
+byte-well byte d Control h = control-well byte d (well-formed-ok P.Write d h)
+byte-well byte d Data h = data-well byte d h
+byte-well byte d Talking h = h
+byte-well byte d ResetCall h = call-well 165 byte d ResetFirst (well-formed-ok P.Write d h) refl
+byte-well byte d ResetFirst h = call-well 90 byte d ResetBoth (well-formed-ok P.Write d h) refl
+byte-well byte d ResetBoth h = well P.Write (withStage d Unselected) (ok d (well-formed-ok P.Write d h)) refl
 
 pub written-well : (byte : ℕ) (d : Device) → wellFormed P.Write d ≡ true → wellFormed P.Write (afterPut P.Write byte d) ≡ true
 unfolding afterPut afterByte
-written-well byte d h = taken-well byte d (d .stage) h
+written-well byte d h = byte-well byte d (d .stage) h
 
 -- ---- a get
 
-moved-well : (d : Device) → WellIn P.Read d → WellIn P.Read (afterTalk d)
+talk-well : (d : Device) → WellIn P.Read d → WellIn P.Read (afterTalk d)
 unfolding afterTalk
-moved-well d h =
+talk-well d h =
     let o = ok d (well-formed-ok P.Read d h) in
     elim (tested (isTalking (d .stage))) [
       | holds e ↦ rw e (well P.Read (withControl d (controlMoved (d .chip) (d .control))) (record { legal = moved-legal (d .chip) (d .control) (o .legal); allowed = o .allowed; within = o .within }) (fits P.Read d h))
@@ -99,14 +99,14 @@ moved-well d h =
 
 pub gotten-well : (ack : Bool) (d : Device) → wellFormed P.Read d ≡ true → wellFormed (phaseAfterGet ack) (afterGet ack d) ≡ true
 unfolding afterGet
-gotten-well true d h = moved-well d h
-gotten-well false d h = well P.Ended (withStage (afterTalk d) Unselected) (ok (afterTalk d) (well-formed-ok P.Read (afterTalk d) (moved-well d h))) refl
+gotten-well true d h = talk-well d h
+gotten-well false d h = well P.Ended (withStage (afterTalk d) Unselected) (ok (afterTalk d) (well-formed-ok P.Read (afterTalk d) (talk-well d h))) refl
 
 -- ---- STOP
 
-effect-ok : (d : Device) → recordOk d ≡ true → recordOk (afterCommit d) ≡ true
+commit-ok : (d : Device) → recordOk d ≡ true → recordOk (afterCommit d) ≡ true
 unfolding afterCommit recordOk
-effect-ok d h =
+commit-ok d h =
     elim (tested (isDriver (d .chip) && isAwake d)) [ holds e ↦ rw e h | fails e ↦ rw e h ]
 
 pub stopped-well : (d : Device) → recordOk d ≡ true → wellFormed P.Idle (afterStop d) ≡ true
@@ -114,7 +114,7 @@ unfolding afterStop
 stopped-well d h =
     elim (tested (isDriver (d .chip) && tookReset (d .stage))) [
       | holds e ↦ rw e (reset-well P.Idle d h)
-      | fails e ↦ rw e (well P.Idle (withStage (afterCommit d) Unselected) (ok (afterCommit d) (effect-ok d h)) refl)
+      | fails e ↦ rw e (well P.Idle (withStage (afterCommit d) Unselected) (ok (afterCommit d) (commit-ok d h)) refl)
     ]
 
 -- ---- by phase
