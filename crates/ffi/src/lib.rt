@@ -1,7 +1,7 @@
 // The static library for C and Rust: what library/include/lamptwin.h declares. A slice arrives as a pointer and a length.
 ghost use mathlib.Core.Path.{_≡_};
 ghost use lib.ListN.{length};
-ghost use Rattle.script.specs.Lines.{linesOf};
+ghost use Rattle.text.specs.Lines.{linesOf};
 ghost use Rattle.script.specs.Log.{RunsLog};
 
 #[no_mangle]

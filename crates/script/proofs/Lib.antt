@@ -1,4 +1,1 @@
-pub mod Scanning
-pub mod Buffer
 pub mod Running
-pub mod WholeLog

@@ -1,14 +1,9 @@
 -- The line of each event, and which events have one.
-use Prim.Native.Nat.{ℕ, _<_}
-use Prim.Native.String.{String}
-use mathlib.Core.List.{List, [], _++_}
-use Rattle.script.specs.Text.{text, decimal}
+use Prim.Native.Nat.{ℕ}
+use mathlib.Core.List.{List, []}
+use Rattle.text.specs.Text.{text, entry, Short}
 use Rattle.bus.specs.declared.Event.{Event}
 use Rattle.bus.specs.declared.Event.the-variants as E
-
--- a key, a number, and what follows
-abbrev pub entry : String → ℕ → List ℕ → List ℕ
-entry key n rest = text key ++ (decimal n ++ rest)
 
 -- the bytes of an event's line, without the line feed
 abbrev pub lineOf : Event → List ℕ
@@ -23,10 +18,6 @@ lineOf (E.Ext dev level) = entry "ev=ext dev=" dev (entry " level=" level [])
 lineOf (E.Reset dev) = entry "ev=reset dev=" dev []
 lineOf (E.Lit dev out ticks) = entry "ev=lit dev=" dev (entry " out=" out (entry " ticks=" ticks []))
 lineOf (E.Pin dev out) = entry "ev=pin dev=" dev (entry " out=" out [])
-
--- a number of at most 15 digits
-abbrev pub Short : ℕ → Type 0
-Short n = n < 1000000000000000
 
 -- every number of the event is one that a line can hold
 abbrev pub InRange : Event → Type 0

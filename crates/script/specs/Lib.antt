@@ -1,10 +1,7 @@
-pub mod Text
 pub mod EventLine
-pub mod Cursor
-pub mod Parse
-pub mod AnswerLine
-pub mod Lines
-pub mod Run
+pub mod Parser
+pub mod Answer
+pub mod Twin
 pub mod Log
 pub mod Promises
 pub mod laws

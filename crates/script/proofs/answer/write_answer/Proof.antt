@@ -1,5 +1,5 @@
-use Rattle.script.specs.AnswerLine.{answerLine}
-use Rattle.script.proofs.Buffer.{then}
+use Rattle.script.specs.Answer.{answerLine}
+use Rattle.text.specs.laws.Write.{then}
 use borrow.Author.Needs.{needs}
 use Rattle.script.proofs.answer.write_answer.Statement.{statement}
 use Rattle.script.proofs.answer.write_answer.Tie as tie

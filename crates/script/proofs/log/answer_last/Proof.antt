@@ -1,4 +1,4 @@
-use Rattle.script.specs.Run.{answerTo}
+use Rattle.script.specs.Twin.{answerTo}
 use borrow.Author.Needs.{needs}
 use Rattle.script.proofs.log.answer_last.Statement.{statement}
 use Rattle.script.proofs.log.answer_last.Tie as tie
