@@ -5,7 +5,7 @@ use mathlib.Core.List.{List}
 use lib.ListN.{getD}
 use lib.Dec.{eqb}
 use Rattle.text.specs.Text.{text}
-use Rattle.text.specs.Read.{rest, numberIn, isEnd, keyOf, fieldOf}
+use Rattle.text.specs.Read.{Rest, rest, numberIn, isEnd, keyOf, fieldOf}
 use Rattle.bus.specs.declared.Event.{Event}
 use Rattle.bus.specs.declared.Event.the-variants as E
 use Rattle.script.specs.declared.parser.Shape.{Shape}
@@ -29,22 +29,22 @@ shapeBy x y z =
 abbrev pub shapeOf : List ℕ → Shape
 shapeOf l = shapeBy (getD l 3 0) (getD l 4 0) (getD l 5 0)
 
+-- the numbers of some fields, the latest last, and whether the line ends behind it
+abbrev pub numbersOf : Rest → Rest → Rest → Numbers
+numbersOf x y z = record { whole = isEnd z; a = numberIn x; b = numberIn y; c = numberIn z }
+
 -- lines of none to three numbers
 unfoldable pub noneOf : List ℕ → List ℕ → Numbers
-noneOf k l = record { whole = isEnd (keyOf k (rest l 0)); a = 0; b = 0; c = 0 }
+noneOf k l = numbersOf (rest l 0) (rest l 0) (keyOf k (rest l 0))
 
 unfoldable pub oneOf : List ℕ → List ℕ → Numbers
-oneOf k l = let x = fieldOf k (rest l 0) in record { whole = isEnd x; a = numberIn x; b = 0; c = 0 }
+oneOf k l = numbersOf (rest l 0) (rest l 0) (fieldOf k (rest l 0))
 
 unfoldable pub twoOf : List ℕ → List ℕ → List ℕ → Numbers
-twoOf k₁ k₂ l = let x = fieldOf k₁ (rest l 0) in let y = fieldOf k₂ x in record { whole = isEnd y; a = numberIn x; b = numberIn y; c = 0 }
+twoOf k₁ k₂ l = let x = fieldOf k₁ (rest l 0) in numbersOf (rest l 0) x (fieldOf k₂ x)
 
 unfoldable pub threeOf : List ℕ → List ℕ → List ℕ → List ℕ → Numbers
-threeOf k₁ k₂ k₃ l =
-    let x = fieldOf k₁ (rest l 0) in
-    let y = fieldOf k₂ x in
-    let z = fieldOf k₃ y in
-    record { whole = isEnd z; a = numberIn x; b = numberIn y; c = numberIn z }
+threeOf k₁ k₂ k₃ l = let x = fieldOf k₁ (rest l 0) in let y = fieldOf k₂ x in numbersOf x y (fieldOf k₃ y)
 
 -- the line read as that shape
 abbrev pub scanned : Shape → List ℕ → Numbers
@@ -61,17 +61,17 @@ scanned S.Lit l = threeOf (text "ev=lit dev=") (text " out=") (text " ticks=") l
 scanned S.Pin l = twoOf (text "ev=pin dev=") (text " out=") l
 
 abbrev pub eventOf : Shape → Numbers → Event
-eventOf S.Add n = E.Add (n .a) (n .b)
+eventOf S.Add n = E.Add (n .b) (n .c)
 eventOf S.Start n = E.Start
-eventOf S.Put n = E.Put (n .a)
-eventOf S.Get n = E.Get (n .a)
+eventOf S.Put n = E.Put (n .c)
+eventOf S.Get n = E.Get (n .c)
 eventOf S.Stop n = E.Stop
-eventOf S.Wait n = E.Wait (n .a) (n .b)
-eventOf S.Oe n = E.Oe (n .a) (n .b)
-eventOf S.Ext n = E.Ext (n .a) (n .b)
-eventOf S.Reset n = E.Reset (n .a)
+eventOf S.Wait n = E.Wait (n .b) (n .c)
+eventOf S.Oe n = E.Oe (n .b) (n .c)
+eventOf S.Ext n = E.Ext (n .b) (n .c)
+eventOf S.Reset n = E.Reset (n .c)
 eventOf S.Lit n = E.Lit (n .a) (n .b) (n .c)
-eventOf S.Pin n = E.Pin (n .a) (n .b)
+eventOf S.Pin n = E.Pin (n .b) (n .c)
 
 abbrev pub finish : Shape → Numbers → Parsed
 finish k n = cond (n .whole) (P.Event (eventOf k n)) P.Bad

@@ -1,7 +1,9 @@
 // An event line read back as its event.
 ghost use mathlib.Core.Path.{_≡_};
-ghost use Rattle.script.specs.Parser.{shapeBy, shapeOf, noneOf, oneOf, twoOf, threeOf, scanned, eventOf, parsed};
+ghost use Rattle.text.specs.Read.{restAt};
+ghost use Rattle.script.specs.Parser.{shapeBy, shapeOf, numbersOf, scanned, eventOf, parsed};
 use bus::Event;
+use text::Field;
 use text::at_end;
 use text::number_of;
 use text::read_field;
@@ -56,7 +58,7 @@ fn shape_of(line: &[u8]) -> Shape
     )
 }
 
-// The numbers of a line, in order, and 0 for those that it has not; and whether it is read to its end.
+// The numbers of a line, the latest last, and whether it is read to its end.
 pub struct Numbers {
     pub whole: bool,
     pub a: u64,
@@ -64,49 +66,9 @@ pub struct Numbers {
     pub c: u64,
 }
 
-fn none(line: &[u8], key: &[u8]) -> Numbers
-    ensures { λ r. ⌜ r ≡ noneOf (now (key .entry)) (now (line .entry)) ⌝ }
+fn gather(line: &[u8], x: Field, y: Field, z: Field) -> Numbers
+    ensures { λ r. ⌜ r ≡ numbersOf (restAt (now (line .entry)) x) (restAt (now (line .entry)) y) (restAt (now (line .entry)) z) ⌝ }
 {
-    let x = read_key(line, start(), key);
-    Numbers {
-        whole: at_end(line, x),
-        a: 0,
-        b: 0,
-        c: 0,
-    }
-}
-
-fn one(line: &[u8], key: &[u8]) -> Numbers
-    ensures { λ r. ⌜ r ≡ oneOf (now (key .entry)) (now (line .entry)) ⌝ }
-{
-    let x = read_field(line, start(), key);
-    Numbers {
-        whole: at_end(line, x),
-        a: number_of(x),
-        b: 0,
-        c: 0,
-    }
-}
-
-fn two(line: &[u8], first: &[u8], second: &[u8]) -> Numbers
-    ensures { λ r. ⌜ r ≡ twoOf (now (first .entry)) (now (second .entry)) (now (line .entry)) ⌝ }
-{
-    let x = read_field(line, start(), first);
-    let y = read_field(line, x, second);
-    Numbers {
-        whole: at_end(line, y),
-        a: number_of(x),
-        b: number_of(y),
-        c: 0,
-    }
-}
-
-fn three(line: &[u8], first: &[u8], second: &[u8], third: &[u8]) -> Numbers
-    ensures { λ r. ⌜ r ≡ threeOf (now (first .entry)) (now (second .entry)) (now (third .entry)) (now (line .entry)) ⌝ }
-{
-    let x = read_field(line, start(), first);
-    let y = read_field(line, x, second);
-    let z = read_field(line, y, third);
     Numbers {
         whole: at_end(line, z),
         a: number_of(x),
@@ -119,18 +81,38 @@ fn three(line: &[u8], first: &[u8], second: &[u8], third: &[u8]) -> Numbers
 fn scan(line: &[u8], shape: Shape) -> Numbers
     ensures { λ r. ⌜ r ≡ scanned shape (now (line .entry)) ⌝ }
 {
+    let s = start();
     match shape {
-        Shape::Add => two(line, b"ev=add chip=", b" addr="),
-        Shape::Start => none(line, b"ev=start"),
-        Shape::Put => one(line, b"ev=put byte="),
-        Shape::Get => one(line, b"ev=get ack="),
-        Shape::Stop => none(line, b"ev=stop"),
-        Shape::Wait => two(line, b"ev=wait dev=", b" ticks="),
-        Shape::Oe => two(line, b"ev=oe dev=", b" level="),
-        Shape::Ext => two(line, b"ev=ext dev=", b" level="),
-        Shape::Reset => one(line, b"ev=reset dev="),
-        Shape::Lit => three(line, b"ev=lit dev=", b" out=", b" ticks="),
-        Shape::Pin => two(line, b"ev=pin dev=", b" out="),
+        Shape::Add => {
+            let chip = read_field(line, s, b"ev=add chip=");
+            gather(line, s, chip, read_field(line, chip, b" addr="))
+        }
+        Shape::Start => gather(line, s, s, read_key(line, s, b"ev=start")),
+        Shape::Put => gather(line, s, s, read_field(line, s, b"ev=put byte=")),
+        Shape::Get => gather(line, s, s, read_field(line, s, b"ev=get ack=")),
+        Shape::Stop => gather(line, s, s, read_key(line, s, b"ev=stop")),
+        Shape::Wait => {
+            let dev = read_field(line, s, b"ev=wait dev=");
+            gather(line, s, dev, read_field(line, dev, b" ticks="))
+        }
+        Shape::Oe => {
+            let dev = read_field(line, s, b"ev=oe dev=");
+            gather(line, s, dev, read_field(line, dev, b" level="))
+        }
+        Shape::Ext => {
+            let dev = read_field(line, s, b"ev=ext dev=");
+            gather(line, s, dev, read_field(line, dev, b" level="))
+        }
+        Shape::Reset => gather(line, s, s, read_field(line, s, b"ev=reset dev=")),
+        Shape::Lit => {
+            let dev = read_field(line, s, b"ev=lit dev=");
+            let out = read_field(line, dev, b" out=");
+            gather(line, dev, out, read_field(line, out, b" ticks="))
+        }
+        Shape::Pin => {
+            let dev = read_field(line, s, b"ev=pin dev=");
+            gather(line, s, dev, read_field(line, dev, b" out="))
+        }
     }
 }
 
@@ -139,32 +121,32 @@ fn event_of(shape: Shape, n: Numbers) -> Event
 {
     match shape {
         Shape::Add => Event::Add {
-            chip: n.a,
-            addr: n.b,
+            chip: n.b,
+            addr: n.c,
         },
         Shape::Start => Event::Start,
-        Shape::Put => Event::Put(n.a),
-        Shape::Get => Event::Get(n.a),
+        Shape::Put => Event::Put(n.c),
+        Shape::Get => Event::Get(n.c),
         Shape::Stop => Event::Stop,
         Shape::Wait => Event::Wait {
-            dev: n.a,
-            ticks: n.b,
+            dev: n.b,
+            ticks: n.c,
         },
         Shape::Oe => Event::Oe {
-            dev: n.a,
-            level: n.b,
+            dev: n.b,
+            level: n.c,
         },
         Shape::Ext => Event::Ext {
-            dev: n.a,
-            level: n.b,
+            dev: n.b,
+            level: n.c,
         },
-        Shape::Reset => Event::Reset { dev: n.a },
+        Shape::Reset => Event::Reset { dev: n.c },
         Shape::Lit => Event::Lit {
             dev: n.a,
             out: n.b,
             ticks: n.c,
         },
-        Shape::Pin => Event::Pin { dev: n.a, out: n.b },
+        Shape::Pin => Event::Pin { dev: n.b, out: n.c },
     }
 }
 

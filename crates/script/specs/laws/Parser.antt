@@ -28,16 +28,16 @@ module _ (k₁ : List ℕ) where
   unfolding noneOf
   none-back = rw (rw append-nil at (key-read k₁ [] 0))
 
-  one-sound : (l : List ℕ) → oneOf k₁ l .whole ≡ true → (l ≡ k₁ ++ (decimal (oneOf k₁ l .a) ++ [])) × Short (oneOf k₁ l .a)
+  one-sound : (l : List ℕ) → oneOf k₁ l .whole ≡ true → (l ≡ k₁ ++ (decimal (oneOf k₁ l .c) ++ [])) × Short (oneOf k₁ l .c)
   unfolding oneOf
   one-sound l e = let i = field-sound k₁ _ (end-sound _ e) in let q = i .0 in (cc, i .1)
 
-  one-back : (x : ℕ) → Short x → oneOf k₁ (k₁ ++ (decimal x ++ [])) ≡ record { whole = true; a = x; b = 0; c = 0 }
+  one-back : (x : ℕ) → Short x → oneOf k₁ (k₁ ++ (decimal x ++ [])) ≡ record { whole = true; a = 0; b = 0; c = x }
   unfolding oneOf
   one-back x s = rw (field-read k₁ x [] 0 s tt)
 
   module _ (k₂ : List ℕ) where
-    two-sound : (l : List ℕ) → twoOf k₁ k₂ l .whole ≡ true → (l ≡ k₁ ++ (decimal (twoOf k₁ k₂ l .a) ++ (k₂ ++ (decimal (twoOf k₁ k₂ l .b) ++ [])))) × (Short (twoOf k₁ k₂ l .a) × Short (twoOf k₁ k₂ l .b))
+    two-sound : (l : List ℕ) → twoOf k₁ k₂ l .whole ≡ true → (l ≡ k₁ ++ (decimal (twoOf k₁ k₂ l .b) ++ (k₂ ++ (decimal (twoOf k₁ k₂ l .c) ++ [])))) × (Short (twoOf k₁ k₂ l .b) × Short (twoOf k₁ k₂ l .c))
     unfolding twoOf
     two-sound l e =
         let j = field-sound k₂ _ (end-sound _ e) in
@@ -45,7 +45,7 @@ module _ (k₁ : List ℕ) where
         let q = i .0 in
         (cc, (i .1, j .1))
 
-    two-back : (x y : ℕ) → Short x → Short y → Stops (k₂ ++ (decimal y ++ [])) → twoOf k₁ k₂ (k₁ ++ (decimal x ++ (k₂ ++ (decimal y ++ [])))) ≡ record { whole = true; a = x; b = y; c = 0 }
+    two-back : (x y : ℕ) → Short x → Short y → Stops (k₂ ++ (decimal y ++ [])) → twoOf k₁ k₂ (k₁ ++ (decimal x ++ (k₂ ++ (decimal y ++ [])))) ≡ record { whole = true; a = 0; b = x; c = y }
     unfolding twoOf
     two-back x y s t h = rw (field-read k₁ x (k₂ ++ (decimal y ++ [])) 0 s h, field-read k₂ y [] x t tt)
 

@@ -1,3 +1,4 @@
+-- `write_answer`: seven texts, one after the other.
 use Rattle.script.specs.Answer.{answerLine}
 use Rattle.text.specs.laws.Write.{then}
 use borrow.Author.Needs.{needs}

@@ -1,3 +1,4 @@
+-- `answer_last`: the reply to the line, written with its number.
 use Rattle.script.specs.Twin.{answerTo}
 use borrow.Author.Needs.{needs}
 use Rattle.script.proofs.log.answer_last.Statement.{statement}

@@ -1,3 +1,4 @@
+-- `fresh`: no line, and an empty bus.
 use borrow.Author.Needs.{needs}
 use Rattle.script.proofs.twin.fresh.Statement.{statement}
 use Rattle.script.proofs.twin.fresh.Tie as tie

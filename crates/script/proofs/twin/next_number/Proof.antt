@@ -1,3 +1,4 @@
+-- `next_number`: one more, or the largest.
 use borrow.Author.Tests.{lt-ltb, le-ltb}
 use borrow.Author.Needs.{needs}
 use Rattle.script.proofs.twin.next_number.Statement.{statement}

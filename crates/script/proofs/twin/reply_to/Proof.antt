@@ -1,3 +1,4 @@
+-- `reply_to`: the bus answers an event, and a bad line is refused.
 use Rattle.script.specs.Twin.{replyTo}
 use borrow.Author.Needs.{needs}
 use Rattle.script.proofs.twin.reply_to.Statement.{statement}
