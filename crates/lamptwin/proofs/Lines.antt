@@ -10,7 +10,7 @@ use native.Mathlib.Omega.{arith}
 use lib.ListN.{length, take, drop, getD, set, length-append, length-take, length-drop}
 use lib.Seq.{take-all, take-suc, take-suc-set, drop-set-lt, drop-drop, getD-drop, take-nil}
 use Rattle.text.specs.Lines.{linesOf, endOf}
-use Rattle.text.specs.Run.{answers, Did, Runs}
+use Rattle.text.specs.Run.{answers, Runs}
 use Rattle.text.specs.laws.Run.{reached-none, reached-both, answered-room}
 use Rattle.text.specs.laws.Write.{written-first}
 use Rattle.script.specs.Promises.{answer-room}
@@ -29,8 +29,8 @@ module _ (o : Output) (text : List ℕ) (from : ℕ) (now : Output) (a : HandedO
   part-is : part ≡ drop from text
   part-is = e ∙ take-all (length text - from) (drop from text) (rw length-drop (omega arith))
 
-  ran : Did twin (now .state) (drop from text) old new (r .read) (r .wrote) (r .state)
-  ran = rw (q, part-is) at (b .did)
+  ran : Runs twin (now .state) (drop from text) old new (r .read) (r .wrote) (r .state)
+  ran = rw (q, part-is) at b
 
   answers-there : take (r .wrote - 0) new ≡ ran .written
   answers-there = let z : r .wrote - 0 ≡ r .wrote = omega arith in rw z (written-first (ran .text))
@@ -57,9 +57,9 @@ module _ (o : Output) (text : List ℕ) (from : ℕ) (now : Output) (a : HandedO
   unfolding linesOf answers
   none-left z h =
       let n : r .wrote ≡ 0 = ran .text .stop ∙ rw (ran .reached .answered .written-is, z) in
-      ⊎-elim (λ (g : length part ≤ r .read + endOf (drop (r .read) part)). omega (arith, rw (z, part-is, length-drop) at g))
+      ⊎-elim (λ (g : length (drop from text) ≤ r .read + endOf (drop (r .read) (drop from text))). omega (arith, rw (z, length-drop) at g))
       (λ (g : length old < r .wrote + 76). absurd (omega arith))
-      (b .stop)
+      (ran .stop)
 
 -- a byte that is moved down
 module _ (old now : List ℕ) (from i : ℕ) (t : take i now ≡ take i (drop from old)) (d : drop i now ≡ drop i old) (l : length now ≡ length old) where

@@ -1,9 +1,9 @@
 // A whole log, from an empty bus: the answer to each of its lines.
 ghost use Prim.Native.Nat.{_+_, _≤_};
 ghost use lib.ListN.{length};
+ghost use Rattle.text.specs.Run.{RunsLog};
 ghost use Rattle.text.specs.Write.{Written};
-ghost use Rattle.script.specs.Twin.{answerTo};
-ghost use Rattle.script.specs.Log.{RunsLog};
+ghost use Rattle.script.specs.Twin.{freshState, answerTo, twin};
 use crate::answer::write_answer;
 use crate::twin::State;
 use crate::twin::fresh;
@@ -26,7 +26,7 @@ fn answer_last(state: State, line: &[u8], out: &mut [u8], at: usize) -> usize
 
 // Writes the answers to the start of out and gives their length. Where out has less than 76 bytes for each line, 0, and out stays.
 pub fn run_log(log: &[u8], out: &mut [u8]) -> usize
-    ensures { λ r. ⌜ RunsLog (now (log .entry)) (now (out .entry)) (now (out .exit)) r ⌝ }
+    ensures { λ r. ⌜ RunsLog twin freshState (now (log .entry)) (now (out .entry)) (now (out .exit)) r ⌝ }
 {
     let lines = lines_in(log);
     if out.len() / 76 < lines {

@@ -12,11 +12,10 @@ use lib.Seq.{paste, paste-suc, take-all}
 use Rattle.io.specs.Digits.{digits, Fewest}
 use Rattle.basics.specs.laws.Logic.{lt-or-ge}
 use Rattle.text.specs.Text.{spelled, decimal}
-use Rattle.text.specs.Write.{placed, Written}
+use Rattle.text.specs.Write.{Written}
 use Rattle.text.specs.laws.Decimal.{spelled-one, spelled-more, decimal-length}
 
 pub write-done : (d s new : List ℕ) (at i : ℕ) → at + length s ≤ length d → i ≤ length s → length s ≤ i → new ≡ paste d at s i → Written d at s new (at + i)
-unfolding placed
 write-done d s new at i m h k e =
     let q : i ≡ length s = omega arith in
     record { room = m; text = e ∙ rw (q, take-all (length s) s (omega arith), append-assoc); stop = rw q }

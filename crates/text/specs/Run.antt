@@ -1,7 +1,7 @@
 -- A run over lines, by any machine that answers each of them.
 use Prim.Native.Nat.{ℕ, _+_, _*_, _≤_, _<_}
 use mathlib.Core.Path.{_≡_}
-use mathlib.Core.Bool.{Bool, cond}
+use mathlib.Core.Bool.{cond}
 use mathlib.Core.List.{List, [], _∷_, _++_}
 use mathlib.Core.Logic.{_⊎_}
 use lib.ListN.{length, take, drop}
@@ -36,21 +36,13 @@ module _ {S : Type 0} (m : Machine S) where
     pub whole : Whole (take read input)
     pub answered : Answered s (take read input) written state
 
-  -- and the answers are at the start of a buffer, in its first `wrote` bytes
-  pub record Did (s : S) (input old new : List ℕ) (read wrote : ℕ) (state : S) : Type 0 where
+  -- a run puts the answers at the start of a buffer; it stops where no complete line is left, or no room for an answer
+  pub record Runs (s : S) (input old new : List ℕ) (read wrote : ℕ) (state : S) : Type 0 where
     pub written : List ℕ
     pub reached : Reached s input read written state
     pub text : Written old 0 written new wrote
-
-  -- what a run does; it stops where no complete line is left, or no room for an answer
-  pub record Runs (s : S) (input old new : List ℕ) (read wrote : ℕ) (state : S) : Type 0 where
-    pub did : Did s input old new read wrote state
     pub stop : (length input ≤ read + endOf (drop read input)) ⊎ (length old < wrote + m .room)
 
-  -- whether a buffer has room for an answer to each line of a log
-  abbrev pub hasRoom : List ℕ → List ℕ → Bool
-  hasRoom log out = leb (m .room * length (linesOf log)) (length out)
-
-  -- a whole log: the answers at the start of the buffer; without room for them, nothing is written
+  -- a whole log: the answers at the start of a buffer that has room for one to each line; in any other nothing is written
   abbrev pub RunsLog : S → List ℕ → List ℕ → List ℕ → ℕ → Type 0
-  RunsLog s log old new r = Written old 0 (cond (hasRoom log old) (answers s (linesOf log)) []) new r
+  RunsLog s log old new r = Written old 0 (cond (leb (m .room * length (linesOf log)) (length old)) (answers s (linesOf log)) []) new r

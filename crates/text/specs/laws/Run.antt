@@ -2,13 +2,14 @@
 use Prim.Native.Nat.{ℕ, suc, _+_, _-_, _*_, _≤_, _<_}
 use mathlib.Core.Path.{_≡_, refl, sym, ap, _∙_}
 use mathlib.Core.List.{List, [], _∷_, _++_, append-assoc, append-nil}
+use mathlib.Core.Logic.{_⊎_}
 use native.Mathlib.Nat.{add-suc, mul-suc, mul-le-mul-left}
 use native.Mathlib.Omega.{arith}
 use lib.ListN.{length, take, drop, length-append, length-drop}
 use lib.Seq.{take-add}
 use Rattle.text.specs.Lines.{linesOf, endOf, Whole}
-use Rattle.text.specs.Write.{placed, Written}
-use Rattle.text.specs.Run.{Machine, after, answers, Answered, Reached, Did}
+use Rattle.text.specs.Write.{Written}
+use Rattle.text.specs.Run.{Machine, after, answers, Answered, Reached, Runs}
 use Rattle.text.specs.laws.Lines.{first-line, whole-both, few-lines}
 use Rattle.text.specs.laws.Write.{then}
 
@@ -86,13 +87,18 @@ module _ {S : Type 0} (m : Machine S) where
         answered = record { state-is = rw e; written-is = rw e (sym (append-nil (m .answer s (take (endOf input) input)))) };
       }
 
-  pub did-none : (s : S) (input old : List ℕ) → Did m s input old old 0 0 s
-  unfolding placed
+  -- what a loop has done so far: the answers are at the start of the buffer
+  pub record Did (s : S) (input old new : List ℕ) (read wrote : ℕ) (state : S) : Type 0 where
+    pub written : List ℕ
+    pub reached : Reached m s input read written state
+    pub text : Written old 0 written new wrote
+
+  pub did-none : (s : S) (input old : List ℕ) → Did s input old old 0 0 s
   did-none s input old = record { written = []; reached = reached-none s input; text = record { room = omega arith; text = refl; stop = refl } }
 
   -- the next line
-  pub did-more : {s state after-it : S} {input old new new′ : List ℕ} {read wrote at : ℕ} (end : ℕ) → Did m s input old new read wrote state → end ≡ read + endOf (drop read input) → end < length input
-      → after-it ≡ m .next state (take (end - read) (drop read input)) → Written new wrote (m .answer state (take (end - read) (drop read input))) new′ at → Did m s input old new′ (end + 1) at after-it
+  pub did-more : {s state after-it : S} {input old new new′ : List ℕ} {read wrote at : ℕ} (end : ℕ) → Did s input old new read wrote state → end ≡ read + endOf (drop read input) → end < length input
+      → after-it ≡ m .next state (take (end - read) (drop read input)) → Written new wrote (m .answer state (take (end - read) (drop read input))) new′ at → Did s input old new′ (end + 1) at after-it
   did-more {s} {state} {after-it} {input} {old} {new} {new′} {read} {wrote} {at} end d e h n w =
       let z : end - read ≡ endOf (drop read input) = omega arith in
       let q : end + 1 ≡ read + suc (endOf (drop read input)) = rw add-suc (omega arith) in
@@ -101,3 +107,7 @@ module _ {S : Type 0} (m : Machine S) where
         reached = rw (q, n, z) (reached-both (d .reached) (reached-line state (drop read input) (rw length-drop (omega arith))));
         text = then (d .text) (rw z at w);
       }
+
+  -- and where it stops
+  pub did-all : {s state : S} {input old new : List ℕ} {read wrote : ℕ} → Did s input old new read wrote state → (length input ≤ read + endOf (drop read input)) ⊎ (length old < wrote + m .room) → Runs m s input old new read wrote state
+  did-all d h = record { written = d .written; reached = d .reached; text = d .text; stop = h }

@@ -5,21 +5,18 @@ use mathlib.Core.List.{List, _++_, append-assoc}
 use native.Mathlib.Omega.{arith}
 use lib.ListN.{length, take, drop, length-append, length-take, length-drop}
 use lib.Seq.{take-at, drop-at, drop-drop, length-take-le, take-append-seam}
-use Rattle.text.specs.Write.{placed, Written}
+use Rattle.text.specs.Write.{Written}
 
 pub write-length : (old s new : List ℕ) (at r : ℕ) → Written old at s new r → length new ≡ length old
-unfolding placed
 write-length old s new at r p =
     ap length (p .text) ∙ simp (length-append, length-take, length-drop) (omega (arith, p .room))
 
 -- what is written at the start
 pub written-first : {old s new : List ℕ} {r : ℕ} → Written old 0 s new r → take r new ≡ s
-unfolding placed
 written-first {old} {s} {new} {r} w = let e : r ≡ length s = omega (arith, w .stop) in rw (w .text, e) (take-append-seam s _)
 
 -- one after the other
 pub then : {old s mid t new : List ℕ} {at r q : ℕ} → Written old at s mid r → Written mid r t new q → Written old at (s ++ t) new q
-unfolding placed
 then {old} {s} {mid} {t} {new} {at} {r} {q} a b =
     let h = a .room in
     let p = take at old ++ s in

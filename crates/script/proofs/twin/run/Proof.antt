@@ -1,6 +1,5 @@
 -- `run`: from line to line, the lines so far are answered at the start of the buffer, and the bus is as well formed as it was.
-use Rattle.text.specs.Run.{Did}
-use Rattle.text.specs.laws.Run.{did-none, did-more}
+use Rattle.text.specs.laws.Run.{Did, did-none, did-more}
 use Rattle.script.specs.Twin.{afterLine, answerTo, twin}
 use Rattle.script.specs.Promises.{reply-shape}
 use Rattle.script.proofs.Running.{runs-to}
