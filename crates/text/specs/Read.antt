@@ -1,6 +1,6 @@
 -- Reading a line from the left.
 use Prim.Native.Nat.{ℕ, _+_, _*_, _-_}
-use mathlib.Core.Bool.{Bool, true, false, cond}
+use mathlib.Core.Bool.{Bool, true, false, cond, _&&_}
 use mathlib.Core.List.{List, [], _∷_}
 use lib.ListN.{drop}
 use lib.Dec.{ltb, leb, eqb}
@@ -26,11 +26,11 @@ isEnd (rest (x ∷ l) n) = false
 isEnd mismatch = false
 
 abbrev pub isDigit : ℕ → Bool
-isDigit d = cond (leb 48 d) (ltb d 58) false
+isDigit d = leb 48 d && ltb d 58
 
 -- whether the digit d goes on the number n: not after a single 0, and not past 15 digits
 abbrev pub takesDigit : ℕ → ℕ → Bool
-takesDigit n d = cond (eqb n 0) false (cond (ltb n 100000000000000) (isDigit d) false)
+takesDigit n d = ltb 0 n && (ltb n 100000000000000 && isDigit d)
 
 unfoldable pub afterKey : List ℕ → List ℕ → ℕ → Rest
 afterKey [] l n = rest l n

@@ -1,15 +1,15 @@
 -- A number that is written is read back, and what is read as a number is one that is written.
 use Prim.Native.Nat.{ℕ, zero, suc, _+_, _*_, _-_, _/_, _%_, _^_, _≤_, _<_}
 use mathlib.Core.Path.{_≡_, refl, sym, _∙_}
-use mathlib.Core.Bool.{Bool, true, false, cond}
+use mathlib.Core.Bool.{Bool, true, false, _&&_}
 use mathlib.Core.List.{List, [], _∷_, _++_, append-assoc}
 use mathlib.Core.Logic.{⊎-elim}
 use native.Mathlib.Nat.{pow-suc}
 use native.Mathlib.Omega.{arith}
-use borrow.Author.Tests.{lt-ltb, le-ltb, le-leb, ne-eqb, ltb-true, leb-true, eqb-false}
+use borrow.Author.Tests.{lt-ltb, le-ltb, le-leb, ltb-true, leb-true}
 use lib.ListN.{length, length-append}
-use lib.Dec.{ltb, leb, eqb}
-use Rattle.basics.specs.laws.Logic.{holds, fails, tested, lt-or-ge}
+use lib.Dec.{ltb, leb}
+use Rattle.basics.specs.laws.Logic.{holds, fails, tested, lt-or-ge, and-left, and-right}
 use Rattle.text.specs.Text.{spelled, decimal, Short}
 use Rattle.text.specs.Read.{rest, mismatch, isDigit, takesDigit, digitsOf, firstOf}
 
@@ -57,30 +57,14 @@ grow n d p h k g =
 decimal-one : (d : ℕ) → 48 ≤ d → d < 58 → decimal (d - 48) ≡ d ∷ []
 decimal-one d h g = let r : 48 + (d - 48) ≡ d = omega arith in spelled-one 19 (d - 48) (omega arith) ∙ rw r
 
-both : (p q : Bool) → cond p q false ≡ true → (p ≡ true) × (q ≡ true)
-both true q e = (refl, e)
-both false q e = absurd (let z : _≡_ {A = ℕ} 0 1 = cc in omega arith)
-
-other : (p q : Bool) → cond p false q ≡ true → (p ≡ false) × (q ≡ true)
-other true q e = absurd (let z : _≡_ {A = ℕ} 0 1 = cc in omega arith)
-other false q e = (refl, e)
-
 digit-true : (d : ℕ) → isDigit d ≡ true → (48 ≤ d) × (d < 58)
-digit-true d e =
-    let h = both (leb 48 d) (ltb d 58) e in
-    (leb-true _ _ (h .0), ltb-true _ _ (h .1))
+digit-true d e = (leb-true _ _ (and-left (leb 48 d) _ e), ltb-true _ _ (and-right (leb 48 d) _ e))
 
 pub takes-digit-true : (n d : ℕ) → takesDigit n d ≡ true → (0 < n) × (n < 100000000000000) × (48 ≤ d) × (d < 58)
 takes-digit-true n d e =
-    let o = other (eqb n 0) _ e in
-    let h = both (ltb n 100000000000000) (isDigit d) (o .1) in
-    let k = digit-true d (h .1) in
-    let z = eqb-false n 0 (o .0) in
-    (positive n z, ltb-true _ _ (h .0), k .0, k .1)
-  where
-    positive : (m : ℕ) → (m ≡ 0 → ⊥) → 0 < m
-    positive zero w = absurd (w refl)
-    positive (suc m) w = omega arith
+    let h = and-right (ltb 0 n) _ e in
+    let k = digit-true d (and-right (ltb n 100000000000000) _ h) in
+    (ltb-true _ _ (and-left (ltb 0 n) _ e), ltb-true _ _ (and-left (ltb n 100000000000000) _ h), k .0, k .1)
 
 -- from l on the number m is read, and r is rest
 pub record Reads (l : List ℕ) (m : ℕ) (r : List ℕ) : Type 0 where
@@ -127,13 +111,12 @@ Stops [] = Unit {0}
 Stops (d ∷ l) = isDigit d ≡ false
 
 no-more : (n d : ℕ) → isDigit d ≡ false → takesDigit n d ≡ false
-no-more n d e = rw e (go (eqb n 0) (ltb n 100000000000000))
+no-more n d e = rw e (go (ltb 0 n) (ltb n 100000000000000))
   where
-    go : (p q : Bool) → cond p false (cond q false false) ≡ false
+    go : (p q : Bool) → (p && (q && false)) ≡ false
     go true true = refl
     go true false = refl
-    go false true = refl
-    go false false = refl
+    go false q = refl
 
 digits-stop : (r : List ℕ) (n : ℕ) → Stops r → digitsOf n r ≡ rest r n
 unfolding digitsOf
@@ -151,10 +134,10 @@ more-read : (n : ℕ) (r : List ℕ) → 10 ≤ n → Short n → digitsOf (n / 
 unfolding digitsOf
 more-read n r h s =
     let q : n / 10 * 10 + (48 + n % 10 - 48) ≡ n = omega arith in
-    let u : n / 10 ≡ 0 → ⊥ = λ z. omega arith in
+    let u : 0 < n / 10 = omega arith in
     let v : n / 10 < 100000000000000 = omega arith in
     let w : n % 10 < 10 = omega arith in
-    rw (ne-eqb (n / 10) 0 u, lt-ltb (n / 10) 100000000000000 v, is-digit (n % 10) w, q)
+    rw (lt-ltb 0 (n / 10) u, lt-ltb (n / 10) 100000000000000 v, is-digit (n % 10) w, q)
 
 spelled-read : (k n : ℕ) (r : List ℕ) → n < 10 ^ suc k → Short n → firstOf (spelled (suc k) n ++ r) ≡ digitsOf n r
 spelled-read zero n r h s = let g : n < 10 = omega arith in rw (spelled-one 0 n g) (one-read n r g)

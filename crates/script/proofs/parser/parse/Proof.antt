@@ -8,11 +8,15 @@ use Rattle.script.proofs.parser.parse.Tie as tie
 
 returns : tie.Need-returns
 unfolding parsed
-returns c = let n = c .before .before in rw (← n .before .shape-of .ensures, ← n .scan .ensures, c .event-of .ensures) (sym (finish-by (n .before .shape-of .result) (n .scan .result) (c .before .if1 .taken)))
+returns c =
+    let n = c .before .before in
+    rw (← n .before .shape-of .ensures, ← n .scan .ensures, c .event-of .ensures) (sym (finish-by (n .before .shape-of .result) (n .scan .result) (c .before .if1 .taken)))
 
 returns-2 : tie.Need-returns-2
 unfolding parsed
-returns-2 c = let n = c .before in rw (← n .before .shape-of .ensures, ← n .scan .ensures) (sym (finish-by (n .before .shape-of .result) (n .scan .result) (c .if1 .left)))
+returns-2 c =
+    let n = c .before in
+    rw (← n .before .shape-of .ensures, ← n .scan .ensures) (sym (finish-by (n .before .shape-of .result) (n .scan .result) (c .if1 .left)))
 
 pub parse-spec : {M : Type 1} → statement M
 parse-spec =

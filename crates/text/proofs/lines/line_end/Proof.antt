@@ -19,7 +19,9 @@ returns : tie.Need-returns Inv-loop μ-loop
 returns c = let l = c .before .before .before in sym (end-here _ _ (c .before .before .loop-test .taken) (c .if1 .taken)) ∙ l .loop .inv
 
 loop-again : tie.Need-loop-again Inv-loop μ-loop
-loop-again c = let l = c .before .before .before in end-on (now (l .before .args .input)) (l .loop .i) (c .before .before .loop-test .taken) (c .if1 .left) ∙ l .loop .inv
+loop-again c =
+    let l = c .before .before .before in
+    end-on (now (l .before .args .input)) (l .loop .i) (c .before .before .loop-test .taken) (c .if1 .left) ∙ l .loop .inv
 
 returns-2 : tie.Need-returns-2 Inv-loop μ-loop
 returns-2 c = let l = c .before in sym (end-none (now (l .before .args .input)) (l .loop .i) (c .loop-test .left)) ∙ l .loop .inv

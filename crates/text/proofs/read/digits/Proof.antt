@@ -18,19 +18,36 @@ abbrev μ-loop : tie.MeasureT-loop
 μ-loop line at first n₀ i₀ n i = length line - i
 
 mul-n : tie.Need-mul-n Inv-loop μ-loop
-mul-n c = let l = c .before .before .before .before in let a = l .before .before .args in omega (arith, takes-digit-true (l .loop .n) (getD (now (a .line)) (l .loop .i) 0) (sym (c .before .takes-digit .ensures) ∙ c .if1 .taken))
+mul-n c =
+    let l = c .before .before .before .before in
+    let a = l .before .before .args in
+    omega (arith, takes-digit-true (l .loop .n) (getD (now (a .line)) (l .loop .i) 0) (sym (c .before .takes-digit .ensures) ∙ c .if1 .taken))
 
 add-n : tie.Need-add-n Inv-loop μ-loop
-add-n c = let l = c .before .before .before .before .before in let a = l .before .before .args in omega (arith, takes-digit-true (l .loop .n) (getD (now (a .line)) (l .loop .i) 0) (sym (c .before .before .takes-digit .ensures) ∙ c .before .if1 .taken), c .value .ensures)
+add-n c =
+    let l = c .before .before .before .before .before in
+    let a = l .before .before .args in
+    omega (arith, takes-digit-true (l .loop .n) (getD (now (a .line)) (l .loop .i) 0) (sym (c .before .before .takes-digit .ensures) ∙ c .before .if1 .taken), c .value .ensures)
 
 loop-again : tie.Need-loop-again Inv-loop μ-loop
-loop-again c = let k = c .before .before .before .before in let l = k .before in let a = l .before .before .args in rw (c .value .ensures) (digits-more (now (a .line)) (l .loop .n) (l .loop .i) (k .loop-test .taken) (sym (c .before .before .takes-digit .ensures) ∙ c .before .if1 .taken) ∙ l .loop .inv)
+loop-again c =
+    let k = c .before .before .before .before in
+    let l = k .before in
+    let a = l .before .before .args in
+    rw (c .value .ensures) (digits-more (now (a .line)) (l .loop .n) (l .loop .i) (k .loop-test .taken) (sym (c .before .before .takes-digit .ensures) ∙ c .before .if1 .taken) ∙ l .loop .inv)
 
 returns : tie.Need-returns Inv-loop μ-loop
-returns c = let k = c .before .before .before in let l = k .before in let a = l .before .before .args in sym (digits-end (now (a .line)) (l .loop .n) (l .loop .i) (k .loop-test .taken) (sym (c .before .takes-digit .ensures) ∙ c .if1 .left)) ∙ l .loop .inv
+returns c =
+    let k = c .before .before .before in
+    let l = k .before in
+    let a = l .before .before .args in
+    sym (digits-end (now (a .line)) (l .loop .n) (l .loop .i) (k .loop-test .taken) (sym (c .before .takes-digit .ensures) ∙ c .if1 .left)) ∙ l .loop .inv
 
 returns-2 : tie.Need-returns-2 Inv-loop μ-loop
-returns-2 c = let l = c .before in let a = l .before .before .args in sym (digits-done (now (a .line)) (l .loop .n) (l .loop .i) (c .loop-test .left)) ∙ l .loop .inv
+returns-2 c =
+    let l = c .before in
+    let a = l .before .before .args in
+    sym (digits-done (now (a .line)) (l .loop .n) (l .loop .i) (c .loop-test .left)) ∙ l .loop .inv
 
 pub digits-spec : {M : Type 1} → statement M
 digits-spec =

@@ -19,13 +19,20 @@ returns : tie.Need-returns Inv-loop μ-loop
 returns c = let l = c .before .before in sym (key-short _ _ _ _ _ (c .before .loop-test .taken) (c .if1 .taken)) ∙ l .loop .inv
 
 returns-2 : tie.Need-returns-2 Inv-loop μ-loop
-returns-2 c = let l = c .before .before .before .before .before in sym (key-other _ _ _ _ _ (c .before .before .before .before .loop-test .taken) (c .before .before .before .if1 .left) (c .if2 .taken)) ∙ l .loop .inv
+returns-2 c =
+    let l = c .before .before .before .before .before in
+    sym (key-other _ _ _ _ _ (c .before .before .before .before .loop-test .taken) (c .before .before .before .if1 .left) (c .if2 .taken)) ∙ l .loop .inv
 
 loop-again : tie.Need-loop-again Inv-loop μ-loop
-loop-again c = let l = c .before .before .before .before .before in key-more _ _ _ _ _ (c .before .before .before .before .loop-test .taken) (c .before .before .before .if1 .left) (c .if2 .left) ∙ l .loop .inv
+loop-again c =
+    let l = c .before .before .before .before .before in
+    key-more _ _ _ _ _ (c .before .before .before .before .loop-test .taken) (c .before .before .before .if1 .left) (c .if2 .left) ∙ l .loop .inv
 
 returns-3 : tie.Need-returns-3 Inv-loop μ-loop
-returns-3 c = let a = c .before .before .args in let l = c .before .loop in sym (key-done (now (a .key)) (now (a .line)) (l .i) (l .j) (a .number) (c .loop-test .left)) ∙ l .inv
+returns-3 c =
+    let a = c .before .before .args in
+    let l = c .before .loop in
+    sym (key-done (now (a .key)) (now (a .line)) (l .i) (l .j) (a .number) (c .loop-test .left)) ∙ l .inv
 
 pub skip-spec : {M : Type 1} → statement M
 skip-spec =

@@ -19,13 +19,19 @@ loop-holds : tie.Need-loop-holds Inv-loop μ-loop
 loop-holds c = (search needs, paste-zero (now (c .args .out)) (c .args .at) (now (c .args .src)), search needs)
 
 loop-again : tie.Need-loop-again Inv-loop μ-loop
-loop-again c = let l = c .before .before in let a = l .before in (search needs, write-more (now (a .args .out)) (now (a .args .src)) (l .loop .out) (a .args .at) (l .loop .i) (a .pre) (c .before .loop-test .taken) (l .loop .inv .1), simp length-set (l .loop .inv .2))
+loop-again c =
+    let l = c .before .before in
+    let a = l .before in
+    (search needs, write-more (now (a .args .out)) (now (a .args .src)) (l .loop .out) (a .args .at) (l .loop .i) (a .pre) (c .before .loop-test .taken) (l .loop .inv .1), simp length-set (l .loop .inv .2))
 
 same-length : tie.Need-same-length Inv-loop μ-loop
 same-length c = c .before .loop .inv .2
 
 returns : tie.Need-returns Inv-loop μ-loop
-returns c = let l = c .before in let a = l .before in write-done (now (a .args .out)) (now (a .args .src)) (l .loop .out) (a .args .at) (l .loop .i) (a .pre) (l .loop .inv .0) (c .loop-test .left) (l .loop .inv .1)
+returns c =
+    let l = c .before in
+    let a = l .before in
+    write-done (now (a .args .out)) (now (a .args .src)) (l .loop .out) (a .args .at) (l .loop .i) (a .pre) (l .loop .inv .0) (c .loop-test .left) (l .loop .inv .1)
 
 pub write-text-spec : {M : Type 1} → statement M
 write-text-spec =
