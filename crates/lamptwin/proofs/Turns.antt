@@ -3,21 +3,24 @@ use Prim.Native.Nat.{ℕ, suc, _+_, _-_, _*_, _^_, _≤_, _<_}
 use mathlib.Core.Path.{_≡_, refl, sym, ap, _∙_}
 use mathlib.Core.Bool.{Bool, true, false, cond}
 use mathlib.Core.List.{List, [], _∷_, _++_, append-assoc, append-nil}
-use mathlib.Core.Logic.{inl, inr, ⊎-elim}
+use mathlib.Core.Logic.{inl, inr}
 use native.Mathlib.Omega.{arith}
-use lib.ListN.{length, take, drop, set, length-append, length-take, length-drop, take-append-drop}
-use lib.Seq.{take-add, take-all, length-take-le, take-suc-set, drop-append-le}
-use lib.Dec.{eqb, ltb}
+use lib.ListN.{length, take, drop, set, length-append, length-take, length-drop}
+use lib.Seq.{take-add, length-take-le, take-suc-set}
+use lib.Dec.{ltb}
 use borrow.Author.Tests.{ltb-true, ltb-false}
-use Rattle.script.specs.laws.Decimal.{holds, fails, tested, lt-or-ge}
-use Rattle.script.specs.Promises.{last-line}
-use Rattle.script.specs.Lines.{linesOf, endOf}
-use Rattle.script.specs.Run.{after, answers}
-use Rattle.script.specs.laws.Lines.{free, free-end, free-take}
-use Rattle.script.specs.laws.Run.{after-both, answers-both}
-use Rattle.script.specs.laws.Stream.{truncated-answers}
-use Rattle.script.specs.declared.batch.State.{State}
-use Rattle.lamptwin.specs.Stream.{Receives, StandsFor, Holds, Unfinished, Goes, Turns, begun}
+use Rattle.basics.specs.laws.Logic.{holds, fails, tested}
+use Rattle.text.specs.Lines.{linesOf, endOf}
+use Rattle.text.specs.Run.{after, answers}
+use Rattle.text.specs.Stream.{StandsFor}
+use Rattle.text.specs.laws.Lines.{free, free-end, free-take}
+use Rattle.text.specs.laws.Run.{answered-room}
+use Rattle.text.specs.laws.Stream.{stands-none, stands-more, stands-ended, stands-kept, last-answered}
+use Rattle.script.specs.Promises.{answer-room, long-alike}
+use Rattle.script.specs.Twin.{twin}
+use Rattle.script.specs.declared.twin.State.{State}
+use Rattle.lamptwin.specs.Input.{Receives}
+use Rattle.lamptwin.specs.Stream.{Holds, Unfinished, Goes, Turns, begun}
 use Rattle.lamptwin.specs.Steps.{Drains, Kept, Feeds, Finishes, Waits, Ends, goesOn, isOpen}
 use Rattle.lamptwin.specs.declared.input.Input.{Input}
 use Rattle.lamptwin.specs.declared.output.Output.{Output}
@@ -25,7 +28,7 @@ use Rattle.lamptwin.specs.declared.stream.Drained.{Drained}
 use Rattle.lamptwin.specs.declared.stream.Stream.{Stream}
 use Rattle.lamptwin.specs.declared.stream.Status.{Status}
 use Rattle.lamptwin.specs.declared.stream.Status.the-variants.{Open, Ended, Failed}
-use Rattle.lamptwin.proofs.Lines.{lines-room, take-min, drop-take}
+use Rattle.lamptwin.proofs.Lines.{take-min, drop-take}
 
 -- ---- the status after some lines
 
@@ -71,18 +74,9 @@ module _ (o : Output) (old new : List ℕ) (end : ℕ) (d : Drained) (r : ℕ) (
       let n : length rest ≡ end - d .read = rw (rest-is, length-take, length-drop) (omega arith) in
       rw (e, length-take) (omega (arith, k .count))
 
-  split : (t : List ℕ) → linesOf (take end old ++ t) ≡ linesOf (take (d .read) (take end old)) ++ linesOf (rest ++ t)
+  kept-stands : StandsFor twin (o .state) (take end old) (a .done .written) (d .output .state) (take r new)
   unfolding rest
-  split t =
-      ap (λ (x : List ℕ). linesOf (x ++ t)) (sym (take-append-drop (d .read) (take end old)))
-      ∙ ap linesOf (append-assoc (take (d .read) (take end old)) rest t)
-      ∙ a .reached .whole .lines (rest ++ t)
-
-  kept-stands : StandsFor (o .state) (take end old) (answers (o .state) (linesOf (take (d .read) (take end old)))) (d .output .state) (take r new)
-  kept-stands = record {
-    states = λ t. rw (kept-is, split t, after-both, ← a .reached .state-is) (truncated-answers (d .output .state) rest t begun-rest .1);
-    answered = λ t. rw (kept-is, split t, answers-both, ← a .reached .state-is, truncated-answers (d .output .state) rest t begun-rest .0);
-  }
+  kept-stands = rw kept-is (stands-kept twin 80 long-alike (a .done .reached) (a .stop f))
 
 pub fed : (s : Stream) (input : Input) (old new part : List ℕ) (d : Drained) (have more : ℕ) (status : Status) → more ≡ input .read - s .input .read → s .input .read ≤ input .read → s .have + more ≤ length old
     → part ≡ take (s .have + more - 0) old → Drains (s .output) part d → Kept old (d .read) (s .have + more) new have → status ≡ cond (d .output .failed) Failed Open
@@ -94,9 +88,9 @@ fed s input old new part d have more status m g h e a k q =
     let r : Stream = record { have = have; input = input; output = d .output; status = status } in
     rw (← m) (record {
       goes = record {
-        written = answers (s .output .state) (linesOf (take (d .read) (take end old)));
+        written = b .done .written;
         read-is = omega arith;
-        sent-is = b .reached .sent-is;
+        sent-is = b .done .sent-is;
         holds = holds-if (d .output .failed) Open status (s .output .state) _ _ r _ q refl (kept-stands (s .output) old new end d have h b k);
         kept = λ o. record { few = omega (arith, k .count); begun = kept-begun (s .output) old new end d have h b k (was-open (d .output .failed) (sym q ∙ o)) };
       };
@@ -104,30 +98,6 @@ fed s input old new part d have more status m g h e a k q =
     })
 
 -- ---- the end of the input
-
-end-fed : (q : List ℕ) → endOf (q ++ (10 ∷ [])) ≤ length q
-unfolding endOf
-end-fed [] = omega arith
-end-fed (b ∷ q) =
-    elim (tested (eqb b 10)) [
-      | holds e ↦ rw e (omega arith)
-      | fails e ↦ rw e (omega (arith, end-fed q))
-    ]
-
--- a text that ends with a line feed is read whole
-read-whole : (o : Output) (p : List ℕ) (d : Drained) → Drains o (p ++ (10 ∷ [])) d → d .output .failed ≡ false → take (d .read) (p ++ (10 ∷ [])) ≡ p ++ (10 ∷ [])
-read-whole o p d a f =
-    ⊎-elim
-    (λ (h : d .read < length p + 1).
-    let e = rw (drop-append-le (d .read) p (10 ∷ []) (omega arith), length-append) at (a .stop f) in
-    absurd (omega (arith, e, end-fed (drop (d .read) p), length-drop (d .read) p)))
-    (λ (h : length p + 1 ≤ d .read). take-all (d .read) (p ++ (10 ∷ [])) (rw length-append (omega arith)))
-    (lt-or-ge (d .read) (length p + 1))
-
--- the line feed that the last line lacks makes no other line
-last-ended : (p : List ℕ) → (length p ≡ 0 → ⊥) → length p ≤ endOf p → linesOf (p ++ (10 ∷ [])) ≡ linesOf p
-last-ended [] n h = absurd (n refl)
-last-ended (b ∷ p) n h = last-line b p h
 
 pub finished-none : (s : Stream) (input : Input) (buf : List ℕ) → Ends s input → s .have ≡ 0 → Finishes s buf (record { have = s .have; input = input; output = s .output; status = Ended }) buf
 unfolding linesOf after answers
@@ -137,7 +107,7 @@ finished-none s input buf g e =
       over = not-open false;
     }
 
-pub finished : (s : Stream) (input : Input) (buf new part : List ℕ) (d : Drained) (status : Status) → Ends s input → Unfinished s buf → (s .have ≡ 0 → ⊥) → s .have < length buf
+pub finished : (s : Stream) (input : Input) (buf new part : List ℕ) (d : Drained) (status : Status) → Ends s input → Unfinished s buf → 0 < s .have → s .have < length buf
     → part ≡ take (s .have + 1 - 0) (set buf (s .have) 10) → Drains (s .output) part d → status ≡ cond (d .output .failed) Failed Ended
     → Finishes s buf (record { have = 0; input = input; output = d .output; status = status }) new
 finished s input buf new part d status g u n h e a q =
@@ -147,16 +117,14 @@ finished s input buf new part d status g u n h e a q =
     let i : part ≡ last ++ (10 ∷ []) = e ∙ rw z (take-suc-set buf have 10 h) in
     let l : length last ≡ have = length-take-le have buf (omega arith) in
     let b : Drains (s .output) (last ++ (10 ∷ [])) d = rw i at a in
-    let lines : d .output .failed ≡ false → linesOf (take (d .read) (last ++ (10 ∷ []))) ≡ linesOf last =
-    λ f. ap linesOf (read-whole (s .output) last d b f) ∙ last-ended last (λ m. n (sym l ∙ m)) (omega (arith, u .begun)) in
     let r : Stream = record { have = 0; input = input; output = d .output; status = status } in
     record {
       goes = record {
-        written = answers (s .output .state) (linesOf (take (d .read) (last ++ (10 ∷ []))));
+        written = b .done .written;
         read-is = omega (arith, g .none);
-        sent-is = b .reached .sent-is;
+        sent-is = b .done .sent-is;
         holds = holds-if (d .output .failed) Ended status (s .output .state) _ _ r _ q refl
-            (λ f. (record { state-is = b .reached .state-is ∙ ap (after (s .output .state)) (lines f); written-is = ap (answers (s .output .state)) (lines f) }, g .ended));
+            (λ f. (last-answered twin (omega arith) (omega (arith, u .begun)) (b .done .reached) (b .stop f), g .ended));
         kept = λ o. absurd (not-open (d .output .failed) (sym q ∙ o));
       };
       over = λ o. not-open (d .output .failed) (sym q ∙ o);
@@ -197,29 +165,21 @@ turned-none first buf =
         written = [];
         read-is = refl;
         sent-is = refl;
-        holds = record { states = λ t. refl; answered = λ t. refl };
+        holds = stands-none twin first;
         kept = λ q. record { few = omega arith; begun = omega arith };
       };
     }
 
 -- what stands for some bytes, and then more bytes
-join : (status : Status) (first mid : State) (r : Stream) (text kept got w v left : List ℕ) → StandsFor first text w mid kept → Holds status mid (kept ++ got) v r left → Holds status first (text ++ got) (w ++ v) r left
-join Open first mid r text kept got w v left a b =
-    record {
-      states = λ t. b .states t ∙ rw (append-assoc kept got t, append-assoc text got t) (a .states (got ++ t));
-      answered = λ t.
-          append-assoc w v (answers (r .output .state) (linesOf (left ++ t)))
-          ∙ ap (λ (x : List ℕ). w ++ x) (b .answered t)
-          ∙ rw (append-assoc kept got t, append-assoc text got t) (a .answered (got ++ t));
-    }
-join Ended first mid r text kept got w v left a b =
-    (record { state-is = b .0 .state-is ∙ a .states got; written-is = ap (λ (x : List ℕ). w ++ x) (b .0 .written-is) ∙ a .answered got }, b .1)
+join : (status : Status) (first mid : State) (r : Stream) (text kept got w v left : List ℕ) → StandsFor twin first text w mid kept → Holds status mid (kept ++ got) v r left → Holds status first (text ++ got) (w ++ v) r left
+join Open first mid r text kept got w v left a b = stands-more twin a got b
+join Ended first mid r text kept got w v left a b = (stands-ended twin a got (b .0), b .1)
 join Failed first mid r text kept got w v left a b = b
 
 pub turned-more : {a s r : Stream} {old buf new : List ℕ} → Turns a old s buf → s .status ≡ Open → Turns s buf r new → Turns a old r new
 turned-more {a} {s} {r} {old} {buf} {new} x o y =
     let k = take (a .have) old in
-    let f : StandsFor (a .output .state) (k ++ x .got) (x .goes .written) (s .output .state) (take (s .have) buf) = rw o at (x .goes .holds) in
+    let f : StandsFor twin (a .output .state) (k ++ x .got) (x .goes .written) (s .output .state) (take (s .have) buf) = rw o at (x .goes .holds) in
     record {
       got = x .got ++ y .got;
       goes = record {
@@ -234,9 +194,8 @@ turned-more {a} {s} {r} {old} {buf} {new} x o y =
 -- the answers so far take at most 76 bytes for each byte read
 pub turned-place : (first : State) (s : Stream) (buf : List ℕ) → Turns (begun first) [] s buf → s .status ≡ Open → s .output .sent ≤ 76 * s .input .read
 turned-place first s buf x o =
-    let f : StandsFor first (x .got) (x .goes .written) (s .output .state) (take (s .have) buf) = rw o at (x .goes .holds) in
-    let l = ap length (f .answered []) in
-    omega (arith, rw (length-append, append-nil (x .got)) at l, lines-room first (x .got), x .goes .read-is, x .goes .sent-is)
+    let f : StandsFor twin first (x .got) (x .goes .written) (s .output .state) (take (s .have) buf) = rw o at (x .goes .holds) in
+    omega (arith, rw (length-append, append-nil (x .got)) at (answered-room twin answer-room (f .on [])), x .goes .read-is, x .goes .sent-is)
 
 -- ---- how long it goes on
 

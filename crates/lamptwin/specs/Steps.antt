@@ -5,8 +5,9 @@ use mathlib.Core.Bool.{Bool, true, false, cond}
 use mathlib.Core.List.{List}
 use lib.ListN.{length, take, drop}
 use lib.Dec.{ltb}
-use Rattle.script.specs.Lines.{linesOf, endOf, Whole}
-use Rattle.script.specs.Run.{after, answers}
+use Rattle.text.specs.Lines.{endOf}
+use Rattle.text.specs.Run.{Reached}
+use Rattle.script.specs.Twin.{twin}
 use Rattle.lamptwin.specs.Stream.{Goes, Unfinished}
 use Rattle.lamptwin.specs.declared.input.Input.{Input}
 use Rattle.lamptwin.specs.declared.output.Output.{Output}
@@ -18,15 +19,14 @@ use Rattle.lamptwin.specs.declared.stream.Status.the-variants.{Open, End
 -- ---- lines in a buffer
 
 -- from o on, the answers to the lines of the first `read` bytes are handed over
-pub record Reached (o : Output) (text : List ℕ) (read : ℕ) (r : Output) : Type 0 where
-  pub within : read ≤ length text
-  pub whole : Whole (take read text)
-  pub state-is : r .state ≡ after (o .state) (linesOf (take read text))
-  pub sent-is : r .sent ≡ o .sent + length (answers (o .state) (linesOf (take read text)))
+pub record HandedOver (o : Output) (text : List ℕ) (read : ℕ) (r : Output) : Type 0 where
+  pub written : List ℕ
+  pub reached : Reached twin (o .state) text read written (r .state)
+  pub sent-is : r .sent ≡ o .sent + length written
 
 -- so it is with what was read; and if no write failed, no complete line is left
 pub record Drains (o : Output) (text : List ℕ) (r : Drained) : Type 0 where
-  pub reached : Reached o text (r .read) (r .output)
+  pub done : HandedOver o text (r .read) (r .output)
   pub stop : r .output .failed ≡ false → length text ≤ r .read + endOf (drop (r .read) text)
 
 -- the first r bytes are those from `from` up to `end`, or the first 81 of them

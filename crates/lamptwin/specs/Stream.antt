@@ -1,58 +1,25 @@
 -- What is promised of a stream of lines through fixed buffers.
-use Prim.Native.Nat.{ℕ, _+_, _^_, _≤_, _<_}
+use Prim.Native.Nat.{ℕ, _+_, _^_, _≤_}
 use mathlib.Core.Path.{_≡_}
-use mathlib.Core.Bool.{true, false}
+use mathlib.Core.Bool.{true}
 use mathlib.Core.List.{List, [], _++_}
 use mathlib.Core.Logic.{_⊎_}
 use lib.ListN.{length, take}
-use Rattle.script.specs.Lines.{linesOf, endOf}
-use Rattle.script.specs.Run.{after, answers}
-use Rattle.script.specs.declared.batch.State.{State}
-use Rattle.lamptwin.specs.declared.input.Input.{Input}
-use Rattle.lamptwin.specs.declared.output.Output.{Output}
+use Rattle.text.specs.Lines.{endOf}
+use Rattle.text.specs.Run.{Answered}
+use Rattle.text.specs.Stream.{StandsFor}
+use Rattle.script.specs.Twin.{twin}
+use Rattle.script.specs.declared.twin.State.{State}
+use Rattle.lamptwin.specs.Input.{nothingRead}
+use Rattle.lamptwin.specs.Output.{nothingSent}
 use Rattle.lamptwin.specs.declared.stream.Stream.{Stream}
 use Rattle.lamptwin.specs.declared.stream.Status.{Status}
 use Rattle.lamptwin.specs.declared.stream.Status.the-variants.{Open, Ended, Failed}
 
--- ---- the input and the output
-
-abbrev pub nothingRead : Input
-nothingRead = record { read = 0; ended = false; failed = false }
-
--- the bytes read are behind the first `have`, which stay; none at the end
-pub record Receives (i : Input) (have : ℕ) (old : List ℕ) (r : Input) (new : List ℕ) : Type 0 where
-  pub more : i .read ≤ r .read
-  pub none : r .ended ≡ true → r .read ≡ i .read
-  pub some : r .failed ≡ false → r .ended ≡ false → i .read < r .read
-  pub room : have + r .read ≤ i .read + length old
-  pub kept : take have new ≡ take have old
-
-abbrev pub nothingSent : State → Output
-nothingSent first = record { state = first; sent = 0; failed = false }
-
--- what is handed over are the answers to some lines, from where the output is, which is the place
-pub record Sends (place : ℕ) (o : Output) (lines text : List ℕ) (next : State) : Type 0 where
-  pub here : place ≡ o .sent
-  pub text-is : text ≡ answers (o .state) (linesOf lines)
-  pub next-is : next ≡ after (o .state) (linesOf lines)
-  pub room : o .sent + length text < 2 ^ 64
-
--- ---- a stream
-
--- `text` is read from `first` on, and `written` handed over: whatever comes, the state and the bytes kept lead to the same state, and to the answers that are left
-pub record StandsFor (first : State) (text written : List ℕ) (state : State) (kept : List ℕ) : Type 0 where
-  pub states : (t : List ℕ) → after state (linesOf (kept ++ t)) ≡ after first (linesOf (text ++ t))
-  pub answered : (t : List ℕ) → written ++ answers state (linesOf (kept ++ t)) ≡ answers first (linesOf (text ++ t))
-
--- every line of `text` is answered, the last one too
-pub record AllAnswered (first : State) (text written : List ℕ) (state : State) : Type 0 where
-  pub state-is : state ≡ after first (linesOf text)
-  pub written-is : written ≡ answers first (linesOf text)
-
 -- by the status; that there is no more, or that a call failed, the input and the output say
 abbrev pub Holds : Status → State → List ℕ → List ℕ → Stream → List ℕ → Type 0
-Holds Open first text written r kept = StandsFor first text written (r .output .state) kept
-Holds Ended first text written r kept = AllAnswered first text written (r .output .state) × (r .input .ended ≡ true)
+Holds Open first text written r kept = StandsFor twin first text written (r .output .state) kept
+Holds Ended first text written r kept = Answered twin first text written (r .output .state) × (r .input .ended ≡ true)
 Holds Failed first text written r kept = (r .input .failed ≡ true) ⊎ (r .output .failed ≡ true)
 
 -- the bytes kept are of one line, whose end is still to come, and at most 81

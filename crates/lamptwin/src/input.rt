@@ -3,7 +3,7 @@ ghost use mathlib.Core.Path.{_≡_};
 ghost use Prim.Native.Nat.{_+_, _-_, _^_, _<_, _≤_};
 ghost use lib.ListN.{length};
 ghost use lib.Dec.{ltb};
-ghost use Rattle.lamptwin.specs.Stream.{nothingRead, Receives};
+ghost use Rattle.lamptwin.specs.Input.{nothingRead, Receives};
 use libc::STDIN_FILENO;
 
 // How many bytes were read, and whether the last read found the end or failed. Only this module makes one.

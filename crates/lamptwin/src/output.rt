@@ -2,7 +2,7 @@
 ghost use mathlib.Core.Path.{_≡_};
 ghost use Prim.Native.Nat.{_+_};
 ghost use lib.ListN.{length};
-ghost use Rattle.lamptwin.specs.Stream.{nothingSent, Sends};
+ghost use Rattle.lamptwin.specs.Output.{nothingSent, Sends};
 use libc::STDOUT_FILENO;
 use script::State;
 

@@ -3,7 +3,7 @@ ghost use mathlib.Core.Path.{_≡_};
 ghost use mathlib.Core.Bool.{cond};
 ghost use Prim.Native.Nat.{_+_, _-_, _*_, _^_, _<_, _≤_, min};
 ghost use lib.ListN.{length};
-ghost use Rattle.script.specs.Run.{freshState};
+ghost use Rattle.script.specs.Twin.{freshState};
 ghost use Rattle.lamptwin.specs.Stream.{Stands, Turns, begun, Answers};
 ghost use Rattle.lamptwin.specs.Steps.{Drains, Kept, Waits, Reads, Ends, Feeds, Finishes, goesOn};
 use crate::input;

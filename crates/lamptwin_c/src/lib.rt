@@ -1,8 +1,9 @@
 // The static library for C and Rust: what library/include/lamptwin.h declares. A slice arrives as a pointer and a length.
 ghost use mathlib.Core.Path.{_≡_};
 ghost use lib.ListN.{length};
-ghost use Rattle.script.specs.Lines.{linesOf};
-ghost use Rattle.script.specs.Log.{RunsLog};
+ghost use Rattle.text.specs.Lines.{linesOf};
+ghost use Rattle.text.specs.Run.{RunsLog};
+ghost use Rattle.script.specs.Twin.{freshState, twin};
 
 #[no_mangle]
 pub extern "C" fn lamptwin_lines(log: &[u8]) -> usize
@@ -13,7 +14,7 @@ pub extern "C" fn lamptwin_lines(log: &[u8]) -> usize
 
 #[no_mangle]
 pub extern "C" fn lamptwin_run(log: &[u8], answers: &mut [u8]) -> usize
-    ensures { λ r. ⌜ RunsLog (now (log .entry)) (now (answers .entry)) (now (answers .exit)) r ⌝ }
+    ensures { λ r. ⌜ RunsLog twin freshState (now (log .entry)) (now (answers .entry)) (now (answers .exit)) r ⌝ }
 {
     script::run_log(log, answers)
 }

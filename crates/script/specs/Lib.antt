@@ -1,10 +1,6 @@
-pub mod Text
 pub mod EventLine
-pub mod Cursor
-pub mod Parse
-pub mod AnswerLine
-pub mod Lines
-pub mod Run
-pub mod Log
+pub mod Parser
+pub mod Answer
+pub mod Twin
 pub mod Promises
 pub mod laws

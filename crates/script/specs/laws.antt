@@ -1,5 +1,1 @@
-pub mod Decimal
-pub mod Field
-pub mod Lines
-pub mod Run
-pub mod Stream
+pub mod Parser

@@ -1,36 +1,16 @@
 // A whole log, from an empty bus: the answer to each of its lines.
-ghost use mathlib.Core.Path.{_≡_};
 ghost use Prim.Native.Nat.{_+_, _≤_};
 ghost use lib.ListN.{length};
-ghost use Rattle.script.specs.AnswerLine.{Written};
-ghost use Rattle.script.specs.Lines.{linesOf};
-ghost use Rattle.script.specs.Run.{answerTo};
-ghost use Rattle.script.specs.Log.{RunsLog};
+ghost use Rattle.text.specs.Run.{RunsLog};
+ghost use Rattle.text.specs.Write.{Written};
+ghost use Rattle.script.specs.Twin.{freshState, answerTo, twin};
 use crate::answer::write_answer;
-use crate::batch::State;
-use crate::batch::fresh;
-use crate::batch::next_number;
-use crate::batch::reply_to;
-use crate::batch::run;
-
-// How many lines a log has. begun is 1 after a byte that is no line feed: its line has not ended.
-pub fn lines_in(log: &[u8]) -> usize
-    ensures { λ r. ⌜ r ≡ length (linesOf (now (log .entry))) ⌝ }
-{
-    let mut ended: usize = 0;
-    let mut begun: usize = 0;
-    let mut i: usize = 0;
-    while i < log.len() {
-        if log[i] == 10 {
-            ended += 1;
-            begun = 0;
-        } else {
-            begun = 1;
-        }
-        i += 1;
-    }
-    ended + begun
-}
+use crate::twin::State;
+use crate::twin::fresh;
+use crate::twin::next_number;
+use crate::twin::reply_to;
+use crate::twin::run;
+use text::lines_in;
 
 // Answers a last line, which lacks its line feed.
 fn answer_last(state: State, line: &[u8], out: &mut [u8], at: usize) -> usize
@@ -46,7 +26,7 @@ fn answer_last(state: State, line: &[u8], out: &mut [u8], at: usize) -> usize
 
 // Writes the answers to the start of out and gives their length. Where out has less than 76 bytes for each line, 0, and out stays.
 pub fn run_log(log: &[u8], out: &mut [u8]) -> usize
-    ensures { λ r. ⌜ RunsLog (now (log .entry)) (now (out .entry)) (now (out .exit)) r ⌝ }
+    ensures { λ r. ⌜ RunsLog twin freshState (now (log .entry)) (now (out .entry)) (now (out .exit)) r ⌝ }
 {
     let lines = lines_in(log);
     if out.len() / 76 < lines {

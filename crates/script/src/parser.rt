@@ -1,16 +1,18 @@
 // An event line read back as its event.
 ghost use mathlib.Core.Path.{_≡_};
-ghost use Rattle.script.specs.Cursor.{restAt};
-ghost use Rattle.script.specs.Parse.{shapeBy, shapeOf, scanned, eventOf, parsed};
-use crate::cursor;
-use crate::cursor::Cursor;
+ghost use Rattle.text.specs.Read.{restAt};
+ghost use Rattle.script.specs.Parser.{shapeBy, shapeOf, numbersOf, scanned, eventOf, parsed};
+use bus::Change;
 use bus::Event;
-
-// An event, or a line of no listed shape.
-pub enum Parsed {
-    Event(Event),
-    Bad,
-}
+use bus::Question;
+use bus::Request;
+use bus::SignalEvent;
+use text::Field;
+use text::at_end;
+use text::number_of;
+use text::read_field;
+use text::read_key;
+use text::start;
 
 // The eleven shapes.
 pub enum Shape {
@@ -48,76 +50,121 @@ fn shape_of(line: &[u8]) -> Shape
     ensures { λ r. ⌜ r ≡ shapeOf (now (line .entry)) ⌝ }
 {
     by_letters(
-        cursor::byte_at(line, 3),
-        cursor::byte_at(line, 4),
-        cursor::byte_at(line, 5),
+        text::byte_at(line, 3),
+        text::byte_at(line, 4),
+        text::byte_at(line, 5),
     )
 }
 
+// The numbers of a line, the latest last, and whether it is read to its end.
+pub struct Numbers {
+    pub whole: bool,
+    pub a: u64,
+    pub b: u64,
+    pub c: u64,
+}
+
+fn gather(line: &[u8], x: Field, y: Field, z: Field) -> Numbers
+    ensures { λ r. ⌜ r ≡ numbersOf (restAt (now (line .entry)) x) (restAt (now (line .entry)) y) (restAt (now (line .entry)) z) ⌝ }
+{
+    Numbers {
+        whole: at_end(line, z),
+        a: number_of(x),
+        b: number_of(y),
+        c: number_of(z),
+    }
+}
+
 // The line read as that shape.
-fn scan(line: &[u8], shape: Shape) -> Cursor
-    ensures { λ r. ⌜ restAt (now (line .entry)) r ≡ scanned shape (now (line .entry)) ⌝ }
+fn scan(line: &[u8], shape: Shape) -> Numbers
+    ensures { λ r. ⌜ r ≡ scanned shape (now (line .entry)) ⌝ }
 {
-    let s = Cursor::At {
-        at: 0,
-        a: 0,
-        b: 0,
-        c: 0,
-    };
+    let s = start();
     match shape {
-        Shape::Add => cursor::field(line, cursor::field(line, s, b"ev=add chip="), b" addr="),
-        Shape::Start => cursor::literal(line, s, b"ev=start"),
-        Shape::Put => cursor::field(line, s, b"ev=put byte="),
-        Shape::Get => cursor::field(line, s, b"ev=get ack="),
-        Shape::Stop => cursor::literal(line, s, b"ev=stop"),
-        Shape::Wait => cursor::field(line, cursor::field(line, s, b"ev=wait dev="), b" ticks="),
-        Shape::Oe => cursor::field(line, cursor::field(line, s, b"ev=oe dev="), b" level="),
-        Shape::Ext => cursor::field(line, cursor::field(line, s, b"ev=ext dev="), b" level="),
-        Shape::Reset => cursor::field(line, s, b"ev=reset dev="),
-        Shape::Lit => {
-            let t = cursor::field(line, cursor::field(line, s, b"ev=lit dev="), b" out=");
-            cursor::field(line, t, b" ticks=")
+        Shape::Add => {
+            let chip = read_field(line, s, b"ev=add chip=");
+            gather(line, s, chip, read_field(line, chip, b" addr="))
         }
-        Shape::Pin => cursor::field(line, cursor::field(line, s, b"ev=pin dev="), b" out="),
+        Shape::Start => gather(line, s, s, read_key(line, s, b"ev=start")),
+        Shape::Put => gather(line, s, s, read_field(line, s, b"ev=put byte=")),
+        Shape::Get => gather(line, s, s, read_field(line, s, b"ev=get ack=")),
+        Shape::Stop => gather(line, s, s, read_key(line, s, b"ev=stop")),
+        Shape::Wait => {
+            let dev = read_field(line, s, b"ev=wait dev=");
+            gather(line, s, dev, read_field(line, dev, b" ticks="))
+        }
+        Shape::Oe => {
+            let dev = read_field(line, s, b"ev=oe dev=");
+            gather(line, s, dev, read_field(line, dev, b" level="))
+        }
+        Shape::Ext => {
+            let dev = read_field(line, s, b"ev=ext dev=");
+            gather(line, s, dev, read_field(line, dev, b" level="))
+        }
+        Shape::Reset => gather(line, s, s, read_field(line, s, b"ev=reset dev=")),
+        Shape::Lit => {
+            let dev = read_field(line, s, b"ev=lit dev=");
+            let out = read_field(line, dev, b" out=");
+            gather(line, dev, out, read_field(line, out, b" ticks="))
+        }
+        Shape::Pin => {
+            let dev = read_field(line, s, b"ev=pin dev=");
+            gather(line, s, dev, read_field(line, dev, b" out="))
+        }
     }
 }
 
-fn event_of(shape: Shape, a: u64, b: u64, c: u64) -> Event
-    ensures { λ r. ⌜ r ≡ eventOf shape a b c ⌝ }
+fn event_of(shape: Shape, n: Numbers) -> Event
+    ensures { λ r. ⌜ r ≡ eventOf shape n ⌝ }
 {
     match shape {
-        Shape::Add => Event::Add { chip: b, addr: c },
-        Shape::Start => Event::Start,
-        Shape::Put => Event::Put(c),
-        Shape::Get => Event::Get(c),
-        Shape::Stop => Event::Stop,
-        Shape::Wait => Event::Wait { dev: b, ticks: c },
-        Shape::Oe => Event::Oe { dev: b, level: c },
-        Shape::Ext => Event::Ext { dev: b, level: c },
-        Shape::Reset => Event::Reset { dev: c },
-        Shape::Lit => Event::Lit {
-            dev: a,
-            out: b,
-            ticks: c,
+        Shape::Add => Event::Add {
+            chip: n.b,
+            addr: n.c,
         },
-        Shape::Pin => Event::Pin { dev: b, out: c },
+        Shape::Start => Event::Signal(SignalEvent::Start),
+        Shape::Put => Event::Signal(SignalEvent::Put(n.c)),
+        Shape::Get => Event::Signal(SignalEvent::Get(n.c)),
+        Shape::Stop => Event::Signal(SignalEvent::Stop),
+        Shape::Wait => Event::Change {
+            dev: n.b,
+            change: Change::Wait(n.c),
+        },
+        Shape::Oe => Event::Change {
+            dev: n.b,
+            change: Change::Oe(n.c),
+        },
+        Shape::Ext => Event::Change {
+            dev: n.b,
+            change: Change::Ext(n.c),
+        },
+        Shape::Reset => Event::Change {
+            dev: n.c,
+            change: Change::Reset,
+        },
+        Shape::Lit => Event::Ask {
+            dev: n.a,
+            question: Question::Lit {
+                out: n.b,
+                ticks: n.c,
+            },
+        },
+        Shape::Pin => Event::Ask {
+            dev: n.b,
+            question: Question::Pin(n.c),
+        },
     }
 }
 
-// The event whose line this is, or Bad where there is none.
-pub fn parse(line: &[u8]) -> Parsed
+// The event whose line this is, if there is one.
+pub fn parse(line: &[u8]) -> Request
     ensures { λ r. ⌜ r ≡ parsed (now (line .entry)) ⌝ }
 {
     let shape = shape_of(line);
-    let read = scan(line, shape);
-    match read {
-        Cursor::Mismatch => Parsed::Bad,
-        Cursor::At { at, a, b, c } => {
-            if at < line.len() {
-                Parsed::Bad
-            } else {
-                Parsed::Event(event_of(shape, a, b, c))
-            }
-        }
+    let n = scan(line, shape);
+    if n.whole {
+        Request::Known(event_of(shape, n))
+    } else {
+        Request::Unknown
     }
 }

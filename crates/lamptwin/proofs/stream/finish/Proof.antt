@@ -21,7 +21,7 @@ returns-2 c =
     let d = c .before .before .before .before in
     let e = d .before .before .before .before .before in
     let a = e .before .before .before .before in
-    (finished (a .args .s) (a .args .input) (now (a .args .buf)) _ _ (d .drain .result) (c .status-after .result) (a .pre .1) (a .pre .0 .kept) (e .if1 .left) (omega (arith, a .pre .0 .kept .few)) refl (d .drain .ensures .0) (c .status-after .ensures), record { read-is = refl; sent-is = d .drain .ensures .1 })
+    (finished (a .args .s) (a .args .input) (now (a .args .buf)) _ _ (d .drain .result) (c .status-after .result) (a .pre .1) (a .pre .0 .kept) (omega (arith, e .if1 .left)) (omega (arith, a .pre .0 .kept .few)) refl (d .drain .ensures .0) (c .status-after .ensures), record { read-is = refl; sent-is = d .drain .ensures .1 })
 
 pub finish-spec : {M : Type 1} → statement M
 finish-spec =

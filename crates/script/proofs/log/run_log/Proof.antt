@@ -1,18 +1,22 @@
-use Rattle.script.proofs.WholeLog.{no-room, all-read, room-there, last-answered}
+-- `run_log`: the run, and a last line that lacks its line feed.
+use Rattle.text.specs.laws.Log.{no-room, all-read, room-there, last-answered}
+use Rattle.script.specs.Promises.{answer-room}
+use Rattle.script.specs.Twin.{twin}
+use native.Mathlib.Omega.{arith}
 use mathlib.Core.Path.{refl}
 use borrow.Author.Needs.{needs}
 use Rattle.script.proofs.log.run_log.Statement.{statement}
 use Rattle.script.proofs.log.run_log.Tie as tie
 
 returns : tie.Need-returns
-returns c = no-room _ _ _ (c .before .lines-in .ensures) (c .if1 .taken)
+returns c = no-room twin _ _ _ (omega (arith, c .before .lines-in .ensures, c .if1 .taken))
 
 returns-2 : tie.Need-returns-2
 returns-2 c =
     let u = c .before .before .before in
     let f = u .before .before in
     let l = f .before in
-    all-read _ _ _ _ (l .before .lines-in .ensures) (l .if1 .left) _ (rw (f .fresh .ensures) at (u .run .ensures)) (c .if2 .taken)
+    all-read twin (omega (arith, l .before .lines-in .ensures, l .if1 .left)) (rw (f .fresh .ensures) at (u .run .ensures)) (c .if2 .taken)
 
 answer-last-requires : tie.Need-answer-last-requires
 answer-last-requires c κs =
@@ -20,7 +24,7 @@ answer-last-requires c κs =
     let u = i .before .before .before in
     let f = u .before .before in
     let l = f .before in
-    room-there _ _ _ _ (l .before .lines-in .ensures) (l .if1 .left) _ (rw (f .fresh .ensures) at (u .run .ensures)) (i .if2 .left)
+    room-there twin (omega (arith, l .before .lines-in .ensures, l .if1 .left)) (rw (f .fresh .ensures) at (u .run .ensures)) answer-room (i .if2 .left)
 
 returns-3 : tie.Need-returns-3
 returns-3 c =
@@ -29,7 +33,7 @@ returns-3 c =
     let u = i .before .before .before in
     let f = u .before .before in
     let l = f .before in
-    last-answered _ _ _ _ (l .before .lines-in .ensures) (l .if1 .left) _ (rw (f .fresh .ensures) at (u .run .ensures)) (i .if2 .left) _ _ _ refl (a .answer-last .ensures)
+    last-answered twin (omega (arith, l .before .lines-in .ensures, l .if1 .left)) (rw (f .fresh .ensures) at (u .run .ensures)) answer-room (i .if2 .left) refl (a .answer-last .ensures)
 
 pub run-log-spec : {M : Type 1} → statement M
 run-log-spec =

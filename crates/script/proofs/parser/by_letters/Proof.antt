@@ -1,3 +1,4 @@
+-- `by_letters`: the letter of the arm, and for the last arm that it is none of the others.
 use borrow.Author.Tests.{ne-eqb}
 use Rattle.script.proofs.parser.by_letters.Statement.{statement}
 use Rattle.script.proofs.parser.by_letters.Tie as tie

@@ -1,3 +1,4 @@
+-- `event_of`: by the shape.
 use borrow.Author.Needs.{needs}
 use Rattle.script.proofs.parser.event_of.Statement.{statement}
 use Rattle.script.proofs.parser.event_of.Tie as tie

@@ -1,3 +1,4 @@
+-- `shape_of`: three letters of the line.
 use borrow.Author.Needs.{needs}
 use Rattle.script.proofs.parser.shape_of.Statement.{statement}
 use Rattle.script.proofs.parser.shape_of.Tie as tie

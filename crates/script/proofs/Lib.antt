@@ -1,4 +1,0 @@
-pub mod Scanning
-pub mod Buffer
-pub mod Running
-pub mod WholeLog

@@ -1,0 +1,80 @@
+-- `run`: from line to line, the lines so far are answered at the start of the buffer, and the bus is as well formed as it was.
+use Rattle.text.specs.laws.Run.{Did, did-none, did-more, did-all}
+use Rattle.script.specs.Twin.{afterLine, answerTo, twin}
+use Rattle.script.specs.Promises.{reply-shape}
+use Rattle.bus.specs.Bus.{busOk}
+use denote.Ref.{now}
+use native.Mathlib.Omega.{arith}
+use borrow.Author.Needs.{needs}
+use lib.ListN.{length}
+use Rattle.bus.specs.declared.Reply.{Reply}
+use mathlib.Core.Logic.{inl, inr}
+use mathlib.Core.Path.{_≡_, sym, ap, _∙_}
+use Prim.Native.Nat.{_+_, _-_}
+use Rattle.script.proofs.twin.run.Statement.{statement}
+use Rattle.script.proofs.twin.run.Tie as tie
+
+abbrev Inv-loop : tie.InvT-loop
+Inv-loop input out₀ lines₀ bus₀ from₀ at₀ most ok out lines bus from at = Did twin (record { lines = lines₀; bus = bus₀ }) input out₀ out from at (record { lines = lines; bus = bus }) × (ok ≡ busOk bus) × (length out ≡ length out₀) × (most + 76 ≡ length out₀)
+
+abbrev μ-loop : tie.MeasureT-loop
+μ-loop input out₀ lines₀ bus₀ from₀ at₀ most ok out lines bus from at = length input - from
+
+returns : tie.Need-returns Inv-loop μ-loop
+returns c =
+    let a = c .before .before .before .before .before in
+    rw (c .ran-to .ensures) (did-all twin (did-none twin (a .args .first) (now (a .args .input)) (now (a .args .out))) (inr (omega arith)))
+
+loop-holds : tie.Need-loop-holds Inv-loop μ-loop
+loop-holds c =
+    let a = c .before .before .before .before .before in
+    (did-none twin (a .args .first) (now (a .args .input)) (now (a .args .out)), c .is-ok .ensures, search needs, search needs)
+
+returns-2 : tie.Need-returns-2 Inv-loop μ-loop
+returns-2 c =
+    let e = c .before .before in
+    rw (c .ran-to2 .ensures) (did-all twin (e .before .before .loop .inv .0) (inl (rw (e .line-end .ensures) at (c .before .if2 .taken))))
+
+reply-to-requires : tie.Need-reply-to-requires Inv-loop μ-loop
+reply-to-requires c κs = c .before .before .before .before .loop .inv .1
+
+loop-again : tie.Need-loop-again Inv-loop μ-loop
+unfolding afterLine answerTo
+loop-again c =
+    let p = c .before .before .before in
+    let n = p .before .before in
+    let r = n .before in
+    let e = r .before .before .before in
+    let l = e .before .before in
+    (did-more twin (e .line-end .result) (l .loop .inv .0) (e .line-end .ensures) (r .before .before .if2 .left) (rw (n .next-number .ensures, r .reply-to .ensures)) (rw (← r .reply-to .ensures, ← n .next-number .ensures) (p .write-answer .ensures)), l .loop .inv .1 ∙ sym (reply-shape _ _) ∙ sym (ap (λ (x : Reply). busOk (x .bus)) (r .reply-to .ensures)), search needs, search needs)
+
+returns-3 : tie.Need-returns-3 Inv-loop μ-loop
+returns-3 c = rw (c .ran-to3 .ensures) (did-all twin (c .before .before .loop .inv .0) (inr (omega arith)))
+
+pub run-spec : {M : Type 1} → statement M
+run-spec =
+    tie.close
+    (tie.spec
+    Inv-loop
+    μ-loop
+    (λ c κs. search needs)
+    returns
+    (λ c. search needs)
+    (λ c κs. search needs)
+    loop-holds
+    (λ c κs. search needs)
+    (λ c κs. search needs)
+    (λ c. search needs)
+    returns-2
+    (λ c. search needs)
+    (λ c. search needs)
+    (λ c. search needs)
+    reply-to-requires
+    (λ c κs. search needs)
+    (λ c κs. search needs)
+    (λ c. search needs)
+    (λ c. search needs)
+    loop-again
+    (λ c κs. search needs)
+    (λ c. search needs)
+    returns-3)
