@@ -1,4 +1,4 @@
--- When the two blinks of a blinker begin together again (01, "When a lamp is lit").
+-- When the two blinks of a blinker begin together again (RULES, Lamps).
 use mathlib.Core.Path.{_≡_}
 use Prim.Native.Nat.{ℕ, _+_, _*_, _/_, _%_, _≤_, _<_}
 use Rattle.basics.specs.Divisors.{lcmOf}

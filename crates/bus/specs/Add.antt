@@ -1,4 +1,4 @@
--- A further device: its refusals, and the bus with it (01, "What can happen on the bus"; the table of refusals is in docs/DECISIONS.md).
+-- A further device: its refusals, and the bus with it (RULES, Events; the table of refusals is in docs/DECISIONS.md).
 use Prim.Native.Nat.{ℕ}
 use mathlib.Core.Bool.{Bool, true, false, not}
 use mathlib.Core.List.{List, [], _∷_}

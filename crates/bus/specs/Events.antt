@@ -54,7 +54,7 @@ abbrev pub requestReply : Bus → Request → Reply
 requestReply b (Known e) = stepReply b e
 requestReply b Unknown = refusedWith b 4
 
--- events by number, 1 to 11 in the order of 01's list of lines, with as many of the arguments as the event has
+-- events by number, 1 to 11 in the order of the list of lines (RULES, Text), with as many of the arguments as the event has
 unfoldable pub eventNumbered : ℕ → ℕ → ℕ → ℕ → Request
 eventNumbered number x y z =
     cond (eqb number 1) (Known (Add x y))

@@ -1,4 +1,4 @@
--- Which hardware addresses a chip can have (01, number 2).
+-- Which hardware addresses a chip can have (RULES, Refusals, 2).
 use Prim.Native.Nat.{ℕ}
 use mathlib.Core.Bool.{Bool, not, _&&_, cond}
 use lib.Dec.{leb, eqb}

@@ -1,4 +1,4 @@
--- Control bytes: which are legal, and how the pointer moves after a byte (01, "Register maps").
+-- Control bytes: which are legal, and how the pointer moves after a byte (RULES, Driver registers and Blinker registers).
 use Prim.Native.Nat.{ℕ, _+_, _*_, _/_, _%_}
 use mathlib.Core.Bool.{Bool, _&&_, _||_, cond}
 use lib.Dec.{leb, eqb}

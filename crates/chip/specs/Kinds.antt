@@ -1,4 +1,4 @@
--- The four chips: their numbers, which are drivers, and how many outputs each has (01, first paragraph).
+-- The four chips: their numbers, which are drivers, and how many outputs each has (RULES, Chips).
 use mathlib.Core.Bool.{Bool, true, false, cond}
 use Prim.Native.Nat.{ℕ}
 use lib.Dec.{eqb}
@@ -21,7 +21,7 @@ chipNumbered n =
     (cond (eqb n 9531) (Known Pca9531)
     (cond (eqb n 9551) (Known Pca9551) Unknown)))
 
--- 01's drivers; the others are its blinkers
+-- drivers; the others are blinkers (RULES, Chips)
 abbrev pub isDriver : Chip → Bool
 isDriver Pca9635 = true
 isDriver Pca9634 = true

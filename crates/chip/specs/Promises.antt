@@ -1,4 +1,4 @@
--- What the definitions of this crate come to: 01's tables as they are printed, and that the pointer never leaves the chip's registers.
+-- What the definitions of this crate come to: the rules' tables as they are printed, and that the pointer never leaves the chip's registers.
 use mathlib.Core.Path.{_≡_, refl}
 use mathlib.Core.Bool.{Bool, true, not, _&&_, _||_}
 use Prim.Native.Nat.{ℕ, _<_}
@@ -13,7 +13,7 @@ use Rattle.chip.specs.declared.Chip.{Chip}
 use Rattle.chip.specs.declared.Chip.the-variants.{Pca9635, Pca9634, Pca9531, Pca9551}
 use Rattle.chip.specs.declared.Lookup.the-variants.{Known}
 
--- 16 and 8 outputs give the two columns of 01's register map
+-- 16 and 8 outputs give the two columns of the rules' register map
 pub columns :
     (registerMap 16 ≡ record { grppwm = 18; grpfreq = 19; ledout0 = 20; subadr1 = 24; allcalladr = 27 })
     × (registerMap 8 ≡ record { grppwm = 10; grpfreq = 11; ledout0 = 12; subadr1 = 14; allcalladr = 17 })

@@ -1,4 +1,4 @@
--- The register maps (01, "Register maps"). The drivers' is one map over the number of outputs n: 16 and 8 give the two columns of 01's table (`Promises`).
+-- The register maps (RULES, Driver registers and Blinker registers). The drivers' is one map over the number of outputs n: 16 and 8 give the two columns of the rules' table (`Promises`).
 use Prim.Native.Nat.{ℕ, _+_, _/_, _%_}
 use mathlib.Core.Bool.{Bool, false, _&&_, cond}
 use lib.Dec.{leb, ltb}

@@ -1,4 +1,4 @@
--- What registers hold after reset, what a write leaves in one, and what a stored byte reads as (01, "Register maps").
+-- What registers hold after reset, what a write leaves in one, and what a stored byte reads as (RULES, Driver registers and Blinker registers).
 use Prim.Native.Nat.{ℕ, _+_, _*_, _/_, _%_}
 use mathlib.Core.Bool.{cond}
 use mathlib.Core.List.{List, [], _∷_, _++_}

@@ -1,4 +1,4 @@
--- What an output follows, whether it is lit, for how many ticks, and the level of its pin (01, "When a lamp is lit").
+-- What an output follows, whether it is lit, for how many ticks, and the level of its pin (RULES, Lamps, Lit counts and Pins).
 use Prim.Native.Nat.{ℕ, _+_, _/_, _%_, _^_}
 use mathlib.Core.Bool.{Bool, not, _&&_, cond}
 use mathlib.Core.List.{List, [], _∷_}
@@ -56,14 +56,14 @@ blinkerOutput d out =
 
 -- ---- any device
 
--- 01's "lit", of an output at a count of ticks
+-- the rules' "lit", of an output at a count of ticks
 unfoldable pub lampLit : Device → ℕ → ℕ → Bool
 lampLit d out = cond (isDriver (d .chip)) (driverLit (driverOutput d (outputsOf (d .chip)) out)) (blinkerLit (blinkerOutput d out))
 
 abbrev pub litNow : Device → ℕ → Bool
 litNow d out = lampLit d out (d .count)
 
--- 01's question "lit", the lit ticks among the next w: tick by tick, or, asleep, w times the present state
+-- the question "lit", the lit ticks among the next w: tick by tick, or, asleep, w times the present state
 unfoldable pub litOf : Device → ℕ → ℕ → ℕ
 litOf d out w = cond (isAwake d) (countedTicks (lampLit d out) (d .count) w) (cond (litNow d out) w 0)
 

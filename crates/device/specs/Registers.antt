@@ -1,4 +1,4 @@
--- A device's registers: as written, and as in effect (01, "When a lamp is lit").
+-- A device's registers: as written, and as in effect (RULES, In effect).
 use Prim.Native.Nat.{ℕ, _/_, _%_, _^_}
 use mathlib.Core.Bool.{Bool, not, _&&_, cond}
 use lib.Dec.{eqb}
@@ -15,7 +15,7 @@ bit k byte = eqb (byte / 2 ^ k % 2) 1
 abbrev pub held : Device → ℕ → ℕ
 held d r = getD (d .written) r 0
 
--- a register as 01's "in effect": PWM0 through LEDOUT of a driver have a copy for it, every other register acts at once
+-- a register as the rules' "in effect": PWM0 through LEDOUT of a driver have a copy for it, every other register acts at once
 unfoldable pub inEffect : Device → ℕ → ℕ
 inEffect d r = cond (isBuffered (d .chip) r) (getD (d .effective) r 0) (held d r)
 
@@ -28,7 +28,7 @@ pointer d = pointed (d .chip) (d .control)
 abbrev pub isSleep : Device → Bool
 isSleep d = bit 4 (held d mode1)
 
--- 01's "awake": SLEEP 0; a blinker is always awake
+-- the rules' "awake": SLEEP 0; a blinker is always awake
 unfoldable pub isAwake : Device → Bool
 isAwake d = not (isDriver (d .chip) && isSleep d)
 

@@ -1,4 +1,4 @@
--- A fresh device, and the reset of one: power-on, the RESET pin and the software reset call alike (01, "What can happen on the bus").
+-- A fresh device, and the reset of one: power-on, the RESET pin and the software reset call alike (RULES, Events).
 use Prim.Native.Nat.{ℕ}
 use mathlib.Core.Bool.{false}
 use Rattle.chip.specs.Values.{resetControl, resetRegisters}

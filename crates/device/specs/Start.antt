@@ -1,4 +1,4 @@
--- The blink-start question (01, "Both blink starts of one blinker meet again").
+-- The blink-start question (RULES, Lamps).
 use Prim.Native.Nat.{ℕ, _+_}
 use Rattle.blink.specs.Start.{commonStart}
 use Rattle.chip.specs.Registers.{psc0}

@@ -1,4 +1,4 @@
--- Time (01, "wait" and number 6). The count is in the device's own unit: ticks of a driver, steps of a blinker.
+-- Time (RULES, Events, and Refusals, 6). The count is in the device's own unit: ticks of a driver, steps of a blinker.
 use Prim.Native.Nat.{ℕ, _+_}
 use mathlib.Core.Bool.{Bool, not, _&&_, cond}
 use lib.Dec.{leb}

@@ -1,4 +1,4 @@
--- Which records can be handed in (01, number 4).
+-- Which records can be handed in (RULES, Refusals, 4).
 use mathlib.Core.Bool.{Bool, true, false, _&&_}
 use lib.Dec.{leb}
 use Rattle.lamp.specs.Window.{countLimit}
@@ -28,7 +28,7 @@ isRead P.Write = false
 isRead P.Read = true
 isRead P.Ended = false
 
--- 01's "listening", which the software reset call counts as, only in an open write; its "talking" only in an open read
+-- the rules' "listening", which the software reset call counts as, only in an open write; their "talking" only in an open read
 abbrev pub stageFits : Phase → Stage → Bool
 stageFits p Unselected = true
 stageFits p Control = isWrite p

@@ -15,7 +15,7 @@ pub use fields::with_stage;
 pub use reset::after_reset;
 pub use reset::fresh;
 
-// What a device is doing in the message on the bus: Talking is 01's "talking"; Control, Data and the last three are its "listening".
+// What a device is doing in the message on the bus: Talking is the rules' "talking"; Control, Data and the last three are their "listening".
 // The last three are the software reset call: 06h taken, then A5h, then 5Ah.
 pub enum Stage {
     Unselected,
@@ -42,7 +42,7 @@ pub struct Device {
     // the 7-bit address of a driver, the pins A2..A0 of a blinker
     pub address: u8,
     pub control: u8,
-    // 01's t: ticks of a driver, steps of a blinker
+    // the rules' t: ticks of a driver, steps of a blinker
     pub count: u64,
     pub oe: bool,
     // the outside levels of a blinker's pins

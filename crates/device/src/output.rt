@@ -100,7 +100,7 @@ fn blinker_output(d: Device, out: u8) -> BlinkerMode
     blinker_mode(chip, ls, psc, pwm)
 }
 
-// 01's "lit", at the present count.
+// The rules' "lit", at the present count.
 pub fn is_lit(d: Device, out: u8) -> bool
     ensures { λ r. ⌜ r ≡ litNow d out ⌝ }
 {
@@ -112,7 +112,7 @@ pub fn is_lit(d: Device, out: u8) -> bool
     }
 }
 
-// 01's question "lit" of a driver, in its ticks: those lit among the next so many; asleep, all of them or none.
+// The question "lit" of a driver, in its ticks: those lit among the next so many; asleep, all of them or none.
 pub fn driver_lit(d: Device, out: u8, ticks: DriverTicks) -> DriverTicks
     ensures { λ r. ⌜ r .0 ≡ litFor d out (Ticks ticks) ⌝ }
 {

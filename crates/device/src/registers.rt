@@ -32,7 +32,7 @@ pub fn with_byte(registers: [u8; 28], register: usize, byte: u8) -> [u8; 28]
     next
 }
 
-// 01's "in effect".
+// The rules' "in effect".
 pub fn in_effect(d: Device, register: usize) -> u8
     ensures { λ r. ⌜ r ≡ inEffect d register ⌝ }
 {
@@ -52,7 +52,7 @@ pub fn is_sleep(mode1: u8) -> bool
     bit(4, mode1)
 }
 
-// 01's "awake": SLEEP 0; a blinker is always awake.
+// The rules' "awake": SLEEP 0; a blinker is always awake.
 pub fn is_awake(d: Device) -> bool
     ensures { λ r. ⌜ r ≡ isAwake d ⌝ }
 {

@@ -8,7 +8,7 @@ ghost use mathlib.Core.Path.{_≡_};
 ghost use Rattle.lamp.specs.declared.Duration.the-variants.{Ticks, Steps};
 ghost use Rattle.device.specs.Wait.{advanced, isOwn, ownDuration, overrunsFor, afterWaitFor};
 
-// A bare number of ticks, as 01's events have it, in the unit of the chip's kind.
+// A bare number of ticks, as the events have it, in the unit of the chip's kind.
 pub fn own_duration(chip: Chip, n: u64) -> Duration
     ensures { λ r. ⌜ r ≡ ownDuration chip n ⌝ }
 {

@@ -1,4 +1,4 @@
--- The twelve marked examples of 01 ("the proved dozen"): one table, one test, one claim.
+-- The twelve marked examples (RULES, Marked examples): one table, one test, one claim.
 use mathlib.Core.Path.{_≡_, refl}
 use mathlib.Core.Bool.{Bool, true, _&&_}
 use mathlib.Core.List.{List, [], _∷_, _++_}

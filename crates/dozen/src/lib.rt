@@ -1,1 +1,1 @@
-// The marked examples of 01 are in specs/.
+// The marked examples (RULES, Marked examples) are in specs/.

@@ -1,4 +1,4 @@
--- Demand 3 on the answers of lit (01, "For demand 3"). What these definitions bring together: a window is a tick count t and a length w; awake is SLEEP 0;
+-- Demand 3 on the answers of lit (RULES, Duty bounds). What these definitions bring together: a window is a tick count t and a length w; awake is SLEEP 0;
 -- an output's mode is its two LEDOUT bits in effect; N is its PWM register in effect, M is GRPPWM in effect; blinking off is DMBLNK 0.
 use Prim.Native.Nat.{ℕ, _+_}
 use mathlib.Core.Path.{_≡_}

@@ -9,7 +9,6 @@ use Rattle.lamp.specs.Window.{litTicks, countLimit, countedTicks}
 use Rattle.lamp.specs.Driver.{driverLit}
 use Rattle.lamp.specs.Duty.{Bounded}
 use Rattle.lamp.specs.Promises.{individual-duty, dimmed-duty}
-use Rattle.lamp.specs.declared.DriverMode.{DriverMode}
 use Rattle.lamp.specs.declared.DriverMode.the-variants as Mode
 use Rattle.device.specs.Registers.{isAwake}
 use Rattle.device.specs.Output.{lampLit, litOf}

@@ -1,11 +1,11 @@
--- When an output of a blinker (01's word for the PCA9531 and the PCA9551) is lit (01, "When a lamp is lit"). Its ticks are the steps of its own oscillator.
+-- When an output of a blinker (the PCA9531, the PCA9551) is lit (RULES, Lamps). Its ticks are the steps of its own oscillator.
 use Prim.Native.Nat.{ℕ, _+_, _/_, _%_}
 use mathlib.Core.Bool.{Bool, true, false}
 use lib.Dec.{ltb, leb}
 use Rattle.lamp.specs.declared.BlinkerMode.{BlinkerMode}
 use Rattle.lamp.specs.declared.BlinkerMode.the-variants.{Off, On, LitBelow, LitFrom}
 
--- 01's step count c, with the prescaler S
+-- the rules' step count c, with the prescaler S
 abbrev pub stepCount : ℕ → ℕ → ℕ
 stepCount S t = t / (S + 1) % 256
 

@@ -1,4 +1,4 @@
--- When an output of a driver (01's word for the PCA9635 and the PCA9634) is lit (01, "When a lamp is lit").
+-- When an output of a driver (the PCA9635, the PCA9634) is lit (RULES, Lamps).
 use Prim.Native.Nat.{ℕ, _+_, _*_, _/_, _%_}
 use mathlib.Core.Bool.{Bool, true, false, _&&_, cond}
 use lib.Dec.{ltb, eqb}

@@ -1,4 +1,4 @@
--- A length of time in the unit of one oscillator (01: ticks of a driver and steps of a blinker are separate units, and never added).
+-- A length of time in the unit of one oscillator (RULES, Events: ticks of a driver and steps of a blinker are separate units, and never added).
 use Prim.Native.Nat.{ℕ}
 use Rattle.lamp.specs.declared.Duration.{Duration}
 use Rattle.lamp.specs.declared.Duration.the-variants.{Ticks, Steps}

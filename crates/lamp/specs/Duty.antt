@@ -1,4 +1,4 @@
--- How far the lit ticks of a window can be from a duty (01, "For demand 3").
+-- How far the lit ticks of a window can be from a duty (RULES, Duty bounds).
 use mathlib.Core.Path.{_≡_}
 use mathlib.Core.Bool.{Bool}
 use Prim.Native.Nat.{ℕ, _+_, _*_, _≤_}

@@ -1,4 +1,4 @@
--- A window of ticks and its lit ticks (01, "lit"). A window is a tick count t and a length w: the ticks t, t + 1, .., t + w - 1.
+-- A window of ticks and its lit ticks (RULES, Lit counts). A window is a tick count t and a length w: the ticks t, t + 1, .., t + w - 1.
 use Prim.Native.Nat.{ℕ, zero, suc, _+_, _^_}
 use mathlib.Core.Bool.{Bool, cond}
 use lib.Dec.{leb}

@@ -6,7 +6,7 @@ ghost use mathlib.Core.Path.{_≡_};
 ghost use Rattle.lamp.specs.Window.{litTicks, countedTicks};
 ghost use Rattle.lamp.specs.Blinker.{stepCount, blinkerLit};
 
-// 01's step count c, with the prescaler of a blinker's output.
+// The rules' step count c, with the prescaler of a blinker's output.
 fn step_count(psc: u8, at: u64) -> u64
     ensures { λ r. ⌜ r ≡ stepCount psc at ⌝ }
 {

@@ -1,4 +1,4 @@
--- What both messages are (01, "Two compound calls exist on an idle bus"): signals, one after the other; the value counts the acknowledged puts.
+-- What both messages are (RULES, Messages): signals, one after the other; the value counts the acknowledged puts.
 use Prim.Native.Nat.{ℕ, _+_}
 use mathlib.Core.List.{List, [], _∷_, map}
 use Rattle.bus.specs.Replies.{doneWith}

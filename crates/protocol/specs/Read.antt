@@ -1,4 +1,4 @@
--- What a device does at a get (01, "Who answers an address").
+-- What a device does at a get (RULES, Bytes of a message).
 use Prim.Native.Nat.{ℕ}
 use mathlib.Core.Bool.{Bool, true, false, cond}
 use lib.Dec.{eqb}
@@ -15,7 +15,7 @@ use Rattle.device.specs.declared.Phase.the-variants as P
 use Rattle.device.specs.declared.Stage.{Stage}
 use Rattle.device.specs.declared.Stage.the-variants.{Unselected, Control, Data, Talking, ResetCall, ResetFirst, ResetBoth}
 
--- 01's "talking"
+-- the rules' "talking"
 abbrev pub isTalking : Stage → Bool
 isTalking Unselected = false
 isTalking Control = false
@@ -32,7 +32,7 @@ registerByte d = readByte (d .chip) (d .control) (held d (pointer d))
 unfoldable pub pointedByte : Device → ℕ
 pointedByte d = cond (isDriver (d .chip)) (registerByte d) (cond (eqb (pointer d) input) (inputByte d) (registerByte d))
 
--- what the device puts on the bus, 01's "talking": one that does not talk leaves every bit 1
+-- what the device puts on the bus, the rules' "talking": one that does not talk leaves every bit 1
 unfoldable pub talkOf : Device → ℕ
 talkOf d = cond (isTalking (d .stage)) (pointedByte d) 255
 

@@ -1,4 +1,4 @@
--- Who answers an address (01, section of that name).
+-- Who answers an address (RULES, Selection).
 use Prim.Native.Nat.{ℕ, _+_, _/_, _%_}
 use mathlib.Core.Bool.{Bool, _&&_, _||_, cond}
 use lib.Dec.{eqb}

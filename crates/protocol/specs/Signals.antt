@@ -26,7 +26,7 @@ isOpen P.Write = true
 isOpen P.Read = true
 isOpen P.Ended = true
 
--- not 01's "out of turn": stop, put or get with no message open; put in a read after its address; get before the address, in a write, or after a get with ack 0
+-- not "out of turn" (RULES, Refusals): stop, put or get with no message open; put in a read after its address; get before the address, in a write, or after a get with ack 0
 abbrev pub inTurn : Phase → Signal → Bool
 inTurn p Start = true
 inTurn p Stop = isOpen p

@@ -1,4 +1,4 @@
--- What a STOP does (01, "Who answers an address" and "When a lamp is lit").
+-- What a STOP does (RULES, Selection and In effect).
 use Prim.Native.Nat.{ℕ}
 use mathlib.Core.Bool.{Bool, true, false, _&&_, cond}
 use mathlib.Core.List.{List}

@@ -1,4 +1,4 @@
--- What a device does at each byte of a write (01, "Who answers an address" and "When a lamp is lit").
+-- What a device does at each byte of a write (RULES, Bytes of a message and In effect).
 use Prim.Native.Nat.{ℕ}
 use mathlib.Core.Bool.{Bool, true, false, not, _&&_, cond}
 use mathlib.Core.List.{List}

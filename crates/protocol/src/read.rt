@@ -42,7 +42,7 @@ fn pointed_byte(d: Device) -> u8
     }
 }
 
-// What the device puts on the bus, 01's "talking"; all ones where it does not talk.
+// What the device puts on the bus, the rules' "talking"; all ones where it does not talk.
 pub fn talk(d: Device) -> u8
     ensures { λ r. ⌜ r ≡ talkOf d ⌝ }
 {

@@ -29,7 +29,7 @@ pub fn is_open(phase: Phase) -> bool
     }
 }
 
-// Not 01's "out of turn".
+// Not "out of turn" (RULES, Refusals).
 pub fn in_turn(phase: Phase, signal: Signal) -> bool
     ensures { λ r. ⌜ r ≡ inTurn phase signal ⌝ }
 {

@@ -1,4 +1,4 @@
--- The numbers that a call can be refused with, each with its condition (01, "Numbers given back"): given is the least that holds.
+-- The numbers that a call can be refused with, each with its condition (RULES, Refusals): given is the least that holds.
 use Prim.Native.Nat.{ℕ, zero, suc, min}
 use mathlib.Core.Bool.{Bool, false, _&&_, _||_, cond}
 use mathlib.Core.List.{List, [], _∷_}

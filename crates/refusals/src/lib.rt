@@ -1,6 +1,6 @@
 // The number of a refusal: the least of those that hold.
 ghost use mathlib.Core.Path.{_≡_};
-ghost use Rattle.refusals.specs.Refusals.{Refusal, refuse, least, numberOf};
+ghost use Rattle.refusals.specs.Refusals.{refuse, least, numberOf};
 
 // The lesser of two codes, where 0 is none.
 pub fn least(a: u64, b: u64) -> u64

@@ -1,4 +1,4 @@
--- One start, stop, put or get on a lent row of records (01, "one call works on a lent row of device records"): what it answers, and the row afterwards.
+-- One start, stop, put or get on a lent row of records (RULES, Lent forms): what it answers, and the row afterwards.
 use Prim.Native.Nat.{ℕ}
 use mathlib.Core.Bool.{cond}
 use mathlib.Core.List.{List, _++_}

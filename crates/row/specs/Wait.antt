@@ -1,4 +1,4 @@
--- A wait of one lent record (01, "one call advances a single lent device record in place by a wait"). The record stands in no message, so its stage is not judged.
+-- A wait of one lent record (RULES, Lent forms). The record stands in no message, so its stage is not judged.
 use Prim.Native.Nat.{ℕ}
 use mathlib.Core.Bool.{not, cond}
 use mathlib.Core.List.{List, [], _∷_}

@@ -1,3 +1,4 @@
+-- A number past nine takes all nine records.
 use mathlib.Core.Path.{_≡_, _∙_}
 use mathlib.Core.List.{List}
 use Prim.Native.Nat.{ℕ, _≤_}

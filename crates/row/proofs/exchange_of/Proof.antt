@@ -1,3 +1,4 @@
+-- The exchange starts with the places of an empty bus.
 use borrow.Author.Needs.{needs}
 use Rattle.row.proofs.exchange_of.Statement.{statement}
 use Rattle.row.proofs.exchange_of.Tie as tie

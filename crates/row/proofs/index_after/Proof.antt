@@ -1,3 +1,4 @@
+-- The index moves on up to eight.
 use borrow.Author.Tests.{le-ltb, lt-ltb}
 use Rattle.row.specs.Exchange.{indexAfter}
 use borrow.Author.Needs.{needs}

@@ -1,3 +1,4 @@
+-- After the last record the event is taken, unless it has been.
 use borrow.Author.Tests.{lt-ltb, le-ltb}
 use borrow.Author.Needs.{needs}
 use Rattle.row.specs.Exchange.{movedOn}

@@ -1,3 +1,4 @@
+-- The record goes to the bus, and what stood there comes out.
 use Rattle.row.specs.Exchange.{swapOf}
 use borrow.Author.Needs.{needs}
 use Rattle.row.proofs.swap.Statement.{statement}

@@ -1,3 +1,4 @@
+-- The bus takes the signal, and its reply is kept.
 use borrow.Author.Needs.{needs}
 use Rattle.row.proofs.take_event.Statement.{statement}
 use Rattle.row.proofs.take_event.Tie as tie

@@ -1,3 +1,4 @@
+-- The loop: the set of the first i positions is gathered, and the weight is that of position i.
 use borrow.Author.Needs.{needs}
 use Prim.Native.Nat.{_≤_, _-_, _^_}
 use mathlib.Core.Path.{_≡_}

@@ -1,3 +1,4 @@
+-- One function at every device, and the phase that the signal leads to.
 use borrow.Author.Needs.{needs}
 use Rattle.bus.proofs.devices.after.Statement.{statement}
 use Rattle.bus.proofs.devices.after.Tie as tie

@@ -1,3 +1,4 @@
+-- The loop: the first i devices have taken the signal.
 use borrow.Author.Needs.{needs}
 use Prim.Native.Nat.{_≤_, _-_}
 use mathlib.Core.Path.{_≡_}

@@ -1,3 +1,4 @@
+-- The loop: the first i devices are well formed.
 use borrow.Author.Needs.{needs}
 use Prim.Native.Nat.{_≤_, _-_}
 use mathlib.Core.Path.{_≡_, sym, _∙_}

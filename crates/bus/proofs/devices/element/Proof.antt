@@ -1,3 +1,4 @@
+-- Past the eighth place stands a fresh record.
 use borrow.Author.Needs.{needs}
 use lib.ListN.{List·getD-eq-default}
 use Rattle.chip.specs.declared.Chip.the-variants.{Pca9635}

@@ -1,3 +1,4 @@
+-- Each of the eight places holds a fresh record.
 use borrow.Author.Needs.{needs}
 use Rattle.bus.proofs.devices.empty.Statement.{statement}
 use Rattle.bus.proofs.devices.empty.Tie as tie

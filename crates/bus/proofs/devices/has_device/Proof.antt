@@ -1,3 +1,4 @@
+-- Below the count, and below eight.
 use borrow.Author.Tests.{le-ltb, lt-ltb}
 use borrow.Author.Needs.{needs}
 use Rattle.bus.proofs.devices.has_device.Statement.{statement}

@@ -1,3 +1,4 @@
+-- A count above eight is not well formed; otherwise each device decides.
 use borrow.Author.Tests.{le-leb, lt-leb}
 use Rattle.bus.specs.Bus.{busOk}
 use borrow.Author.Needs.{needs}

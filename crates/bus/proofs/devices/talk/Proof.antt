@@ -1,3 +1,4 @@
+-- The loop: the AND of what the first i devices put on the bus.
 use borrow.Author.Needs.{needs}
 use Prim.Native.Nat.{_≤_, _-_}
 use mathlib.Core.Path.{_≡_}

@@ -1,3 +1,4 @@
+-- Only the devices change.
 use borrow.Author.Needs.{needs}
 use Rattle.bus.proofs.devices.with_device.Statement.{statement}
 use Rattle.bus.proofs.devices.with_device.Tie as tie

@@ -1,3 +1,4 @@
+-- A place past the eighth changes nothing.
 use borrow.Author.Needs.{needs}
 use lib.Seq.{set-out}
 use Rattle.bus.proofs.devices.with_element.Statement.{statement}

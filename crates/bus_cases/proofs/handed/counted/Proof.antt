@@ -1,3 +1,4 @@
+-- A fresh device with this MODE1 and count.
 use borrow.Author.Needs.{needs}
 use Rattle.bus_cases.proofs.handed.counted.Statement.{statement}
 use Rattle.bus_cases.proofs.handed.counted.Tie as tie

@@ -1,3 +1,4 @@
+-- The loop: the first i bytes are written.
 use borrow.Author.Needs.{needs}
 use Prim.Native.Nat.{_≤_, _-_}
 use mathlib.Core.Path.{_≡_}

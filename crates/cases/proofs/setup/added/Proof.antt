@@ -1,3 +1,4 @@
+-- The bus after an add.
 use borrow.Author.Needs.{needs}
 use Rattle.cases.proofs.setup.added.Statement.{statement}
 use Rattle.cases.proofs.setup.added.Tie as tie

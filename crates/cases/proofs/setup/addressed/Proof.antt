@@ -1,3 +1,4 @@
+-- The bus after START and the address byte.
 use borrow.Author.Needs.{needs}
 use Rattle.cases.proofs.setup.addressed.Statement.{statement}
 use Rattle.cases.proofs.setup.addressed.Tie as tie

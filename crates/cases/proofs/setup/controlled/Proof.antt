@@ -1,3 +1,4 @@
+-- A fresh device with another control byte.
 use borrow.Author.Needs.{needs}
 use Rattle.cases.proofs.setup.controlled.Statement.{statement}
 use Rattle.cases.proofs.setup.controlled.Tie as tie

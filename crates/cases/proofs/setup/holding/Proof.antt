@@ -1,3 +1,4 @@
+-- One device at the first place.
 use borrow.Author.Needs.{needs}
 use Rattle.cases.proofs.setup.holding.Statement.{statement}
 use Rattle.cases.proofs.setup.holding.Tie as tie

@@ -1,3 +1,4 @@
+-- An empty bus, and an add.
 use borrow.Author.Needs.{needs}
 use Rattle.cases.proofs.setup.one.Statement.{statement}
 use Rattle.cases.proofs.setup.one.Tie as tie

@@ -1,3 +1,4 @@
+-- The bus after a put.
 use borrow.Author.Needs.{needs}
 use Rattle.cases.proofs.setup.put.Statement.{statement}
 use Rattle.cases.proofs.setup.put.Tie as tie

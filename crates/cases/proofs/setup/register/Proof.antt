@@ -1,3 +1,4 @@
+-- The byte of a register as written.
 use borrow.Author.Needs.{needs}
 use Rattle.cases.proofs.setup.register.Statement.{statement}
 use Rattle.cases.proofs.setup.register.Tie as tie

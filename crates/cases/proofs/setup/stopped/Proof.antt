@@ -1,3 +1,4 @@
+-- The bus after a STOP.
 use borrow.Author.Needs.{needs}
 use Rattle.cases.proofs.setup.stopped.Statement.{statement}
 use Rattle.cases.proofs.setup.stopped.Tie as tie

@@ -1,3 +1,4 @@
+-- The bus after a wait.
 use borrow.Author.Needs.{needs}
 use Rattle.cases.proofs.setup.waited.Statement.{statement}
 use Rattle.cases.proofs.setup.waited.Tie as tie

@@ -1,3 +1,4 @@
+-- The bus after a write message.
 use borrow.Author.Needs.{needs}
 use Rattle.cases.proofs.setup.written.Statement.{statement}
 use Rattle.cases.proofs.setup.written.Tie as tie
