@@ -27,9 +27,9 @@ fn wait_code(device: Device, ticks: u64) -> u64
     ensures { λ r. ⌜ r ≡ codeOf (recordRefusals device ticks) ⌝ }
 {
     let chip = device.chip;
-    let duration = device::wait::own_duration(chip, ticks);
+    let own = device::wait::own_duration(chip, ticks);
     let code = or_refused(0, 4, !device::well_formed::is_ok(device));
-    or_refused(code, 6, device::wait::overruns(device, duration))
+    or_refused(code, 6, device::wait::overruns(device, own))
 }
 
 // The wait by value, of a bare number in the unit of the device's kind: the lent forms only copy and store.
