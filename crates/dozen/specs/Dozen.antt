@@ -6,7 +6,7 @@ use Prim.Native.Nat.{ℕ, _+_, _*_, _-_}
 use lib.Dec.{eqb}
 use Rattle.basics.specs.Divisors.{euclid, gcdOf, lcmOf}
 use Rattle.blink.specs.Start.{commonStart}
-use Rattle.bus.specs.Bus.{emptyBus, busOk}
+use Rattle.bus.specs.Devices.{emptyBus, busOk}
 use Rattle.bus.specs.Events.{stepReply, stepRefusals, stepDone}
 use Rattle.basics.specs.Bits.{maskFirst}
 use Rattle.basics.specs.First.{mapFirst, allFirst, andFirst}
