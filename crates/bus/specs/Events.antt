@@ -5,7 +5,7 @@ use mathlib.Core.List.{List, [], _∷_, _++_}
 use lib.Dec.{eqb}
 use Rattle.chip.specs.Kinds.{chipNumbered}
 use Rattle.refusals.specs.Refusals.{Refusal}
-use Rattle.bus.specs.Bus.{deviceAt, withDevice, busAfter}
+use Rattle.bus.specs.Devices.{deviceAt, withDevice, busAfter}
 use Rattle.bus.specs.Replies.{refusedWith, doneWith, answer}
 use Rattle.bus.specs.Add.{addRefusals, addedTo}
 use Rattle.bus.specs.Signals.{signalOf, signalRefusals, signalValue}

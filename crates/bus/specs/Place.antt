@@ -12,7 +12,7 @@ use Rattle.device.specs.Wait.{overruns, afterWait}
 use Rattle.device.specs.Start.{commonStartOf}
 use Rattle.device.specs.declared.Device.{Device}
 use Rattle.refusals.specs.Refusals.{Refusal, refuse}
-use Rattle.bus.specs.Bus.{busOk, hasDevice, deviceAt}
+use Rattle.bus.specs.Devices.{busOk, hasDevice, deviceAt}
 use Rattle.bus.specs.Replies.{doneWith, answer}
 use Rattle.bus.specs.declared.Bus.{Bus}
 use Rattle.bus.specs.declared.Change.{Change}

@@ -18,7 +18,7 @@ use Rattle.protocol.specs.Put.{acksTo}
 use Rattle.refusals.specs.Refusals.{codeOf}
 use Rattle.refusals.specs.laws.Refusals.{Exact}
 use Rattle.basics.specs.First.{allFirst}
-use Rattle.bus.specs.Bus.{busOk, deviceAt, emptyBus}
+use Rattle.bus.specs.Devices.{busOk, deviceAt, emptyBus}
 use Rattle.bus.specs.Replies.{refusedWith, doneWith}
 use Rattle.bus.specs.Place.{blinkRefusals, blinkReply}
 use Rattle.bus.specs.Units.{isForeign, waitForRefusals, waitForReply, litForRefusals, litForReply}

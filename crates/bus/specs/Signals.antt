@@ -11,7 +11,7 @@ use Rattle.protocol.specs.declared.Signal.{Signal}
 use Rattle.protocol.specs.declared.Signal.the-variants as P
 use Rattle.refusals.specs.Refusals.{Refusal, refuse}
 use Rattle.basics.specs.First.{andFirst}
-use Rattle.bus.specs.Bus.{busOk}
+use Rattle.bus.specs.Devices.{busOk}
 use Rattle.bus.specs.declared.Bus.{Bus}
 use Rattle.bus.specs.declared.SignalEvent.{SignalEvent}
 use Rattle.bus.specs.declared.SignalEvent.the-variants.{Start, Stop, Put, Get}

@@ -10,7 +10,7 @@ use Rattle.device.specs.Wait.{isOwn, overrunsFor, afterWaitFor}
 use Rattle.device.specs.Output.{litFor}
 use Rattle.device.specs.declared.Device.{Device}
 use Rattle.refusals.specs.Refusals.{Refusal, refuse}
-use Rattle.bus.specs.Bus.{deviceAt, withDevice}
+use Rattle.bus.specs.Devices.{deviceAt, withDevice}
 use Rattle.bus.specs.Replies.{doneWith, answer}
 use Rattle.bus.specs.Place.{placeRefusals, isMissing}
 use Rattle.bus.specs.declared.Bus.{Bus}

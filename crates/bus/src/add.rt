@@ -7,7 +7,7 @@ ghost use mathlib.Core.Path.{_≡_};
 ghost use Prim.Native.Nat.{_<_};
 ghost use Rattle.refusals.specs.Refusals.{codeOf};
 ghost use Rattle.bus.specs.declared.Event.the-variants.{Add};
-ghost use Rattle.bus.specs.Bus.{busOk};
+ghost use Rattle.bus.specs.Devices.{busOk};
 ghost use Rattle.bus.specs.Add.{addRefusals, addedTo, isUnknown, isBarred};
 ghost use Rattle.bus.specs.Events.{stepReply};
 

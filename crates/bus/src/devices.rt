@@ -16,7 +16,7 @@ ghost use Rattle.protocol.specs.Put.{acksTo};
 ghost use Rattle.protocol.specs.Read.{talkOf};
 ghost use Rattle.protocol.specs.Signals.{afterSignal};
 ghost use Rattle.basics.specs.First.{mapFirst, allFirst, andFirst};
-ghost use Rattle.bus.specs.Bus.{busOk, hasDevice, deviceAt, withDevice, withAdded, busAfter, emptyBus};
+ghost use Rattle.bus.specs.Devices.{busOk, hasDevice, deviceAt, withDevice, withAdded, busAfter, emptyBus};
 
 // A bus with no device and no message.
 pub fn empty() -> Bus

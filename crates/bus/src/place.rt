@@ -9,7 +9,7 @@ use refusals::or_refused;
 ghost use mathlib.Core.Path.{_≡_};
 ghost use Rattle.refusals.specs.Refusals.{codeOf};
 ghost use Rattle.bus.specs.declared.Event.the-variants as E;
-ghost use Rattle.bus.specs.Bus.{busOk};
+ghost use Rattle.bus.specs.Devices.{busOk};
 ghost use Rattle.bus.specs.Place.{placeRefusals, levelRefusals, changeRefusals, afterChange, isMissing, questionRefusals, valueOf, blinkRefusals, blinkReply};
 ghost use Rattle.bus.specs.Events.{stepReply};
 

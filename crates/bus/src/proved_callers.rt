@@ -4,7 +4,7 @@ use crate::Event;
 use crate::Reply;
 use crate::Request;
 ghost use mathlib.Core.Path.{_≡_};
-ghost use Rattle.bus.specs.Bus.{busOk};
+ghost use Rattle.bus.specs.Devices.{busOk};
 ghost use Rattle.bus.specs.Events.{stepReply, requestReply};
 
 pub fn step_judged(ok: bool, bus: Bus, event: Event) -> Reply

@@ -11,7 +11,7 @@ ghost use Prim.Native.Nat.{_≤_};
 ghost use Rattle.protocol.specs.Signals.{inTurn};
 ghost use Rattle.refusals.specs.Refusals.{codeOf};
 ghost use Rattle.bus.specs.declared.Event.the-variants as E;
-ghost use Rattle.bus.specs.Bus.{busOk};
+ghost use Rattle.bus.specs.Devices.{busOk};
 ghost use Rattle.bus.specs.Signals.{signalOf, isTooLarge, signalRefusals, putValue, signalValue};
 ghost use Rattle.bus.specs.Events.{stepReply};
 

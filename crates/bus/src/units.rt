@@ -9,7 +9,7 @@ use refusals::or_refused;
 ghost use mathlib.Core.Path.{_≡_};
 ghost use Rattle.device.specs.Output.{litFor};
 ghost use Rattle.refusals.specs.Refusals.{codeOf};
-ghost use Rattle.bus.specs.Bus.{busOk};
+ghost use Rattle.bus.specs.Devices.{busOk};
 ghost use Rattle.bus.specs.Units.{isForeign, isTooLongFor, waitForRefusals, waitForReply, litForRefusals, litForReply};
 
 fn is_foreign(d: Device, duration: Duration) -> bool

@@ -10,7 +10,7 @@ ghost use lib.ListN.{getD};
 ghost use Rattle.device.specs.Fields.{withControl};
 ghost use Rattle.device.specs.Reset.{fresh};
 ghost use Rattle.device.specs.declared.Phase.the-variants.{Idle};
-ghost use Rattle.bus.specs.Bus.{emptyBus, deviceAt, withDevice};
+ghost use Rattle.bus.specs.Devices.{emptyBus, deviceAt, withDevice};
 ghost use Rattle.bus.specs.Events.{stepReply, putReply, waitReply};
 ghost use Rattle.bus.specs.declared.Event.the-variants.{Add, Signal};
 ghost use Rattle.bus.specs.declared.SignalEvent.the-variants.{Start, Stop};

@@ -21,6 +21,23 @@ pub const BLINK_PWM0: u8 = 2;
 
 pub const LS0: u8 = 5;
 
+// What `register_map` gives for each driver.
+pub mod pca9635 {
+    pub const GRPPWM: usize = 18;
+
+    pub const SUBADR1: usize = 24;
+
+    pub const ALLCALLADR: usize = 27;
+}
+
+pub mod pca9634 {
+    pub const GRPPWM: usize = 10;
+
+    pub const SUBADR1: usize = 14;
+
+    pub const ALLCALLADR: usize = 17;
+}
+
 // A blinker has no such map: for one this is the map of a driver with as many outputs.
 pub fn register_map(chip: Chip) -> RegisterMap
     ensures { λ r. ⌜ r ≡ registerMap (outputsOf chip) ⌝ }

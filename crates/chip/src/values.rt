@@ -1,11 +1,12 @@
 // What registers hold: after reset, after a write, and as they are read.
 use crate::Chip;
+use crate::registers::pca9634;
+use crate::registers::pca9635;
 ghost use mathlib.Core.Path.{_≡_};
-ghost use mathlib.Core.Bool.{true};
 ghost use mathlib.Core.List.{_++_};
 ghost use lib.ListN.{replicate};
-ghost use Rattle.chip.specs.Kinds.{isDriver, outputsOf};
-ghost use Rattle.chip.specs.Values.{resetControl, blinkerResets, resetRegisters, writableBits, storedByte, readByte};
+ghost use Rattle.chip.specs.Kinds.{outputsOf};
+ghost use Rattle.chip.specs.Values.{resetControl, driverResets, blinkerResets, resetRegisters, writableBits, storedByte, readByte};
 
 pub fn reset_control(chip: Chip) -> u8
     ensures { λ r. ⌜ r ≡ resetControl chip ⌝ }
@@ -13,22 +14,31 @@ pub fn reset_control(chip: Chip) -> u8
     if crate::is_driver(chip) { 0x80 } else { 0 }
 }
 
-fn driver_resets(chip: Chip) -> [u8; 28]
-    requires { ⌜ isDriver chip ≡ true ⌝ }
-    ensures { λ r. ⌜ r ≡ resetRegisters chip ⌝ }
+fn pca9635_resets() -> [u8; 28]
+    ensures { λ r. ⌜ r ≡ driverResets 16 ⌝ }
 {
-    let map = crate::register_map(chip);
-    let grppwm = map.grppwm as usize;
-    let subadr1 = map.subadr1 as usize;
-    let allcalladr = map.allcalladr as usize;
     let mut registers = [0u8; 28];
     registers[crate::MODE1 as usize] = 0x91;
     registers[crate::MODE2 as usize] = 0x05;
-    registers[grppwm] = 0xFF;
-    registers[subadr1] = 0xE2;
-    registers[subadr1 + 1] = 0xE4;
-    registers[subadr1 + 2] = 0xE8;
-    registers[allcalladr] = 0xE0;
+    registers[pca9635::GRPPWM] = 0xFF;
+    registers[pca9635::SUBADR1] = 0xE2;
+    registers[pca9635::SUBADR1 + 1] = 0xE4;
+    registers[pca9635::SUBADR1 + 2] = 0xE8;
+    registers[pca9635::ALLCALLADR] = 0xE0;
+    registers
+}
+
+fn pca9634_resets() -> [u8; 28]
+    ensures { λ r. ⌜ r ≡ driverResets 8 ++ replicate 10 0 ⌝ }
+{
+    let mut registers = [0u8; 28];
+    registers[crate::MODE1 as usize] = 0x91;
+    registers[crate::MODE2 as usize] = 0x05;
+    registers[pca9634::GRPPWM] = 0xFF;
+    registers[pca9634::SUBADR1] = 0xE2;
+    registers[pca9634::SUBADR1 + 1] = 0xE4;
+    registers[pca9634::SUBADR1 + 2] = 0xE8;
+    registers[pca9634::ALLCALLADR] = 0xE0;
     registers
 }
 
@@ -53,8 +63,8 @@ pub fn reset_registers(chip: Chip) -> [u8; 28]
     ensures { λ r. ⌜ r ≡ resetRegisters chip ⌝ }
 {
     match chip {
-        Chip::Pca9635 => driver_resets(chip),
-        Chip::Pca9634 => driver_resets(chip),
+        Chip::Pca9635 => pca9635_resets(),
+        Chip::Pca9634 => pca9634_resets(),
         Chip::Pca9531 => blinker_resets(0, 0),
         Chip::Pca9551 => blinker_resets(0xFF, 0x55),
     }

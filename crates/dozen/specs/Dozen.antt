@@ -6,7 +6,7 @@ use Prim.Native.Nat.{ℕ, _+_, _*_, _-_}
 use lib.Dec.{eqb}
 use Rattle.basics.specs.Divisors.{euclid, gcdOf, lcmOf}
 use Rattle.blink.specs.Start.{commonStart}
-use Rattle.bus.specs.Bus.{emptyBus, busOk}
+use Rattle.bus.specs.Devices.{emptyBus, busOk}
 use Rattle.bus.specs.Events.{stepReply, stepRefusals, stepDone}
 use Rattle.basics.specs.Bits.{maskFirst}
 use Rattle.basics.specs.First.{mapFirst, allFirst, andFirst}
@@ -37,6 +37,7 @@ use Rattle.bus.specs.declared.Event.{Event}
 use Rattle.bus.specs.declared.Change.the-variants.{Wait}
 use Rattle.bus.specs.declared.Event.the-variants.{Add, Signal, Change, Ask}
 use Rattle.bus.specs.declared.Question.the-variants.{Lit}
+use Rattle.bus.specs.declared.SignalEvent.{SignalEvent}
 use Rattle.bus.specs.declared.SignalEvent.the-variants.{Start, Stop, Put, Get}
 use Rattle.bus.specs.declared.Reply.{Reply}
 
@@ -74,32 +75,23 @@ aboveBy w M N bound x = eqb (65536 * x) (w * M * N + bound) && eqb bound (M * N 
 
 -- ---- events and messages
 
-abbrev start : Step
-start = on (Signal Start) 0
-
-abbrev stop : Step
-stop = on (Signal Stop) 0
-
-abbrev put : ℕ → ℕ → Step
-put x v = on (Signal (Put x)) v
-
-abbrev get : ℕ → ℕ → Step
-get ack v = on (Signal (Get ack)) v
+abbrev signal : SignalEvent → ℕ → Step
+signal s v = on (Signal s) v
 
 abbrev lit : ℕ → ℕ → ℕ → Event
 lit dev out ticks = Ask dev (Lit out ticks)
 
 -- a write to the board at the 7-bit address 21, every byte acknowledged
 abbrev written : List Step → List Step
-written bytes = start ∷ put 42 1 ∷ bytes ++ stop ∷ []
+written bytes = signal Start 0 ∷ signal (Put 42) 1 ∷ bytes ++ signal Stop 0 ∷ []
 
 abbrev byte : ℕ → Step
-byte x = put x 1
+byte x = signal (Put x) 1
 
 -- the board's register at this control byte reads as v
 abbrev reads : ℕ → ℕ → List Step
 reads control v =
-    start ∷ put 42 1 ∷ put control 1 ∷ start ∷ put 43 1 ∷ get 0 v ∷ stop ∷ []
+    signal Start 0 ∷ signal (Put 42) 1 ∷ signal (Put control) 1 ∷ signal Start 0 ∷ signal (Put 43) 1 ∷ signal (Get 0) v ∷ signal Stop 0 ∷ []
 
 -- a PCA9635 awake, output 0 at brightness 64 in this mode, GRPPWM 1
 abbrev lamp : ℕ → List Step
@@ -110,16 +102,16 @@ lamp ledout = on (Add 9635 21) 0 ∷ written (byte 128 ∷ byte 1 ∷ []) ++ wri
 unfoldable pub table : List (List Step)
 table =
     -- 1. fresh 9635, two gets: 91h, 05h
-    (on (Add 9635 21) 0 ∷ start ∷ put 43 1 ∷ get 1 145 ∷ get 0 5 ∷ [])
+    (on (Add 9635 21) 0 ∷ signal Start 0 ∷ signal (Put 43) 1 ∷ signal (Get 1) 145 ∷ signal (Get 0) 5 ∷ [])
     -- 2. control 9Bh legal on 9635, 9Ch not
-    ∷ (on (Add 9635 21) 0 ∷ start ∷ put 42 1 ∷ put 155 1 ∷ start ∷ put 42 1 ∷ put 156 0 ∷ [])
+    ∷ (on (Add 9635 21) 0 ∷ signal Start 0 ∷ signal (Put 42) 1 ∷ signal (Put 155) 1 ∷ signal Start 0 ∷ signal (Put 42) 1 ∷ signal (Put 156) 0 ∷ [])
     -- 3. 9634, option 111: 0Bh goes to 02h. EBh, then a byte for GRPFREQ and one that lands in PWM0
     ∷ (on (Add 9634 21) 0 ∷ written (byte 235 ∷ byte 7 ∷ byte 9 ∷ []) ++ reads 2 9)
     -- 4. the same: 11h goes to 00h. F1h, then a byte for ALLCALLADR and one that lands in MODE1
     ∷ (on (Add 9634 21) 0 ∷ written (byte 241 ∷ byte 224 ∷ byte 1 ∷ []) ++ reads 0 1)
     -- 5. 06 A5 5A STOP resets; 06 A5 5A 00 STOP doesn't
-    ∷ (on (Add 9635 21) 0 ∷ written (byte 2 ∷ byte 64 ∷ []) ++ start ∷ byte 6 ∷ byte 165 ∷ byte 90 ∷ stop ∷ reads 2 0)
-    ∷ (on (Add 9635 21) 0 ∷ written (byte 2 ∷ byte 64 ∷ []) ++ start ∷ byte 6 ∷ byte 165 ∷ byte 90 ∷ put 0 0 ∷ stop ∷ reads 2 64)
+    ∷ (on (Add 9635 21) 0 ∷ written (byte 2 ∷ byte 64 ∷ []) ++ signal Start 0 ∷ byte 6 ∷ byte 165 ∷ byte 90 ∷ signal Stop 0 ∷ reads 2 0)
+    ∷ (on (Add 9635 21) 0 ∷ written (byte 2 ∷ byte 64 ∷ []) ++ signal Start 0 ∷ byte 6 ∷ byte 165 ∷ byte 90 ∷ signal (Put 0) 0 ∷ signal Stop 0 ∷ reads 2 64)
     -- 6. E3h into SUBADR1 reads E2h
     ∷ (on (Add 9635 21) 0 ∷ written (byte 24 ∷ byte 227 ∷ []) ++ reads 24 226)
     -- 7. N=64, t=0, w=100: 64 lit
@@ -129,11 +121,11 @@ table =
     -- 9. M=1, N=64, t=0, w=320: 128 lit, bound 8,368,128 reached
     ∷ (lamp 3 ++ reaching (lit 0 0 320) 128 (aboveBy 320 1 64 8368128) ∷ [])
     -- 10. 9531 in BLINK0, PSC0 1, PWM0 128: 256 lit of 512
-    ∷ (on (Add 9531 5) 0 ∷ start ∷ put 202 1 ∷ byte 17 ∷ byte 1 ∷ byte 128 ∷ start ∷ put 202 1 ∷ byte 5 ∷ byte 2 ∷ stop ∷ on (lit 0 0 512) 256 ∷ [])
+    ∷ (on (Add 9531 5) 0 ∷ signal Start 0 ∷ signal (Put 202) 1 ∷ byte 17 ∷ byte 1 ∷ byte 128 ∷ signal Start 0 ∷ signal (Put 202) 1 ∷ byte 5 ∷ byte 2 ∷ signal Stop 0 ∷ on (lit 0 0 512) 256 ∷ [])
     -- 11. 9551 in BLINK0, PWM0 0: always lit
-    ∷ (on (Add 9551 5) 0 ∷ start ∷ put 202 1 ∷ byte 17 ∷ byte 0 ∷ byte 0 ∷ start ∷ put 202 1 ∷ byte 5 ∷ byte 2 ∷ stop ∷ on (lit 0 0 600) 600 ∷ [])
+    ∷ (on (Add 9551 5) 0 ∷ signal Start 0 ∷ signal (Put 202) 1 ∷ byte 17 ∷ byte 0 ∷ byte 0 ∷ signal Start 0 ∷ signal (Put 202) 1 ∷ byte 5 ∷ byte 2 ∷ signal Stop 0 ∷ on (lit 0 0 600) 600 ∷ [])
     -- 12. PSC 5 and 3: blink starts meet after 3,072 steps
-    ∷ (on (Add 9531 5) 0 ∷ start ∷ put 202 1 ∷ byte 17 ∷ byte 5 ∷ byte 128 ∷ byte 3 ∷ stop ∷ blinks 0 3072 ∷ [])
+    ∷ (on (Add 9531 5) 0 ∷ signal Start 0 ∷ signal (Put 202) 1 ∷ byte 17 ∷ byte 5 ∷ byte 128 ∷ byte 3 ∷ signal Stop 0 ∷ blinks 0 3072 ∷ [])
     ∷ []
 
 unfoldable pub allPass : List (List Step) → Bool

@@ -8,7 +8,7 @@ use Rattle.chip.specs.Registers.{pwm0, grppwm}
 use Rattle.device.specs.Registers.{inEffect, isAwake, isBlinking}
 use Rattle.device.specs.Output.{ledoutOf}
 use Rattle.device.specs.declared.Device.{Device}
-use Rattle.bus.specs.Bus.{busOk, hasDevice, deviceAt}
+use Rattle.bus.specs.Devices.{busOk, hasDevice, deviceAt}
 use Rattle.bus.specs.Place.{isMissing}
 use Rattle.bus.specs.declared.Bus.{Bus}
 

@@ -14,7 +14,7 @@ use Rattle.device.specs.Registers.{isAwake}
 use Rattle.device.specs.Output.{lampLit, litOf}
 use Rattle.device.specs.Wait.{overruns}
 use Rattle.device.specs.declared.Device.{Device}
-use Rattle.bus.specs.Bus.{deviceAt}
+use Rattle.bus.specs.Devices.{deviceAt}
 use Rattle.bus.specs.Place.{questionRefusals, valueOf}
 use Rattle.bus.specs.Events.{stepReply, stepRefusals, stepDone, litReply}
 use Rattle.bus.specs.laws.Replies.{answer-done}

@@ -5,7 +5,7 @@ use Prim.Native.Nat.{ℕ, _≤_, _<_}
 use Rattle.lamp.specs.Window.{countLimit}
 use Rattle.chip.specs.Kinds.{isDriver, outputsOf}
 use Rattle.chip.specs.declared.Chip.{Chip}
-use Rattle.bus.specs.Bus.{deviceAt}
+use Rattle.bus.specs.Devices.{deviceAt}
 use Rattle.duty.specs.Output.{Individual, Dimmed, Stands}
 use Rattle.duty.specs.laws.Witness.{busSet, stands, output, dimming, steady, pair-10, pair-11}
 use Rattle.bus.specs.declared.Bus.{Bus}

@@ -13,7 +13,7 @@ use Rattle.basics.specs.laws.Logic.{holds, fails, tested}
 use Rattle.text.specs.Lines.{linesOf, endOf}
 use Rattle.text.specs.Run.{after, answers}
 use Rattle.text.specs.Stream.{StandsFor}
-use Rattle.text.specs.laws.Lines.{free, free-end, free-take}
+use Rattle.text.specs.laws.Lines.{begun-take}
 use Rattle.text.specs.laws.Run.{answered-room}
 use Rattle.text.specs.laws.Stream.{stands-none, stands-more, stands-ended, stands-kept, last-answered}
 use Rattle.script.specs.Promises.{answer-room, long-alike}
@@ -70,7 +70,7 @@ module _ (o : Output) (old new : List ℕ) (end : ℕ) (d : Drained) (r : ℕ) (
 
   kept-begun : r ≤ endOf (take r new)
   kept-begun =
-      let e : endOf (take r new) ≡ length (take 81 rest) = rw kept-is (free-end (take 81 rest) (free-take 81 rest (free rest begun-rest))) in
+      let e : endOf (take r new) ≡ length (take 81 rest) = rw kept-is (begun-take 81 rest begun-rest) in
       let n : length rest ≡ end - d .read = rw (rest-is, length-take, length-drop) (omega arith) in
       rw (e, length-take) (omega (arith, k .count))
 

@@ -2,7 +2,9 @@
 use bus::Bus;
 use bus::Reply;
 ghost use mathlib.Core.Path.{_≡_};
+ghost use mathlib.Core.Bool.{cond};
 ghost use mathlib.Core.List.{[], _∷_};
+ghost use lib.Dec.{eqb};
 ghost use Prim.Native.Nat.{_+_, _≤_, _<_};
 ghost use Rattle.bus.specs.declared.SignalEvent.the-variants.{Start, Stop, Put};
 ghost use Rattle.message.specs.Sent.{sentBy, ended};
@@ -24,6 +26,14 @@ pub fn start(sent: Sent) -> Sent
     }
 }
 
+// Whether a put with this value is acknowledged, as a number.
+fn acked(value: u64) -> u64
+    ensures { λ r. ⌜ r ≡ cond (eqb value 0) 0 1 ⌝ }
+    ensures { λ r. ⌜ r ≤ 1 ⌝ }
+{
+    if value == 0 { 0 } else { 1 }
+}
+
 // A slice has fewer than 2^63 bytes, so the count of a message's puts fits.
 pub fn put(sent: Sent, byte: u64) -> Sent
     requires { ⌜ sent .acks < 18446744073709551615 ⌝ }
@@ -33,7 +43,7 @@ pub fn put(sent: Sent, byte: u64) -> Sent
     let reply = bus::calls::put(sent.bus, byte);
     let bus = reply.bus;
     Sent {
-        acks: sent.acks + reply.value,
+        acks: sent.acks + acked(reply.value),
         bus: bus,
     }
 }

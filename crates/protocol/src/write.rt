@@ -71,7 +71,7 @@ fn wakes(byte: u8, d: Device) -> bool
 {
     let chip = d.chip;
     if chip::is_driver(chip) {
-        if register(d) == chip::MODE1 as usize {
+        if chip::control::register(chip, d.control) == chip::MODE1 {
             if device::registers::is_sleep(d.written[chip::MODE1 as usize]) {
                 !device::registers::is_sleep(byte)
             } else {

@@ -11,7 +11,7 @@ use Rattle.device.specs.declared.Phase.{Phase}
 use Rattle.device.specs.declared.Phase.the-variants.{Idle, Write}
 use Rattle.device.specs.declared.Stage.{Stage}
 use Rattle.device.specs.declared.Stage.the-variants.{Control, Data, ResetFirst}
-use Rattle.bus.specs.Bus.{emptyBus, withDevice}
+use Rattle.bus.specs.Devices.{emptyBus, withDevice}
 use Rattle.bus.specs.declared.Bus.{Bus}
 use Rattle.message.specs.Write.{writeReply}
 

@@ -8,7 +8,7 @@ use device::Phase;
 use device::Stage;
 ghost use mathlib.Core.Path.{_≡_};
 ghost use Rattle.device.specs.declared.Phase.the-variants.{Write};
-ghost use Rattle.bus.specs.Bus.{withDevice};
+ghost use Rattle.bus.specs.Devices.{withDevice};
 ghost use Rattle.record_cases.specs.Handed.{busIn, stagedOf, mixedBus};
 
 fn start_in(word: &[u8], device: Device, phase: Phase) {

@@ -19,7 +19,7 @@ use Rattle.device.specs.declared.Phase.{Phase}
 use Rattle.basics.specs.First.{mapFirst}
 use Rattle.basics.specs.laws.Logic.{holds, fails, tested}
 use Rattle.refusals.specs.Refusals.{codeOf}
-use Rattle.bus.specs.Bus.{emptyBus}
+use Rattle.bus.specs.Devices.{emptyBus}
 use Rattle.bus.specs.Replies.{answer}
 use Rattle.bus.specs.Events.{stepReply, stepRefusals, stepDone}
 use Rattle.bus.specs.declared.Bus.{Bus}

@@ -4,7 +4,7 @@ use mathlib.Core.Bool.{true, false, _||_, cond}
 use lib.Dec.{ltb, eqb}
 use Rattle.device.specs.declared.Device.{Device}
 use Rattle.device.specs.declared.Phase.{Phase}
-use Rattle.bus.specs.Bus.{emptyBus, deviceAt, withDevice}
+use Rattle.bus.specs.Devices.{emptyBus, deviceAt, withDevice}
 use Rattle.bus.specs.Events.{stepReply}
 use Rattle.bus.specs.declared.Bus.{Bus}
 use Rattle.bus.specs.declared.Event.the-variants.{Signal}

@@ -8,7 +8,7 @@ use Rattle.device.specs.declared.Device.{Device}
 use Rattle.device.specs.declared.Phase.{Phase}
 use Rattle.refusals.specs.Refusals.{codeOf}
 use Rattle.refusals.specs.laws.Refusals.{Exact, exact}
-use Rattle.bus.specs.Bus.{busOk, hasDevice, deviceAt}
+use Rattle.bus.specs.Devices.{busOk, hasDevice, deviceAt}
 use Rattle.bus.specs.Events.{stepReply, waitReply}
 use Rattle.bus.specs.declared.Bus.{Bus}
 use Rattle.bus.specs.declared.Event.the-variants.{Signal}

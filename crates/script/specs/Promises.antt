@@ -5,7 +5,7 @@ use mathlib.Core.List.{List}
 use native.Mathlib.Omega.{arith}
 use borrow.Author.Tests.{lt-ltb}
 use lib.ListN.{length, length-append}
-use Rattle.bus.specs.Bus.{busOk}
+use Rattle.bus.specs.Devices.{busOk}
 use Rattle.bus.specs.Events.{requestReply}
 use Rattle.bus.specs.Promises.{step-shape}
 use Rattle.bus.specs.declared.Bus.{Bus}

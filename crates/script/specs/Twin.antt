@@ -3,7 +3,7 @@ use Prim.Native.Nat.{ℕ, _+_}
 use mathlib.Core.Bool.{cond}
 use mathlib.Core.List.{List}
 use lib.Dec.{ltb}
-use Rattle.bus.specs.Bus.{emptyBus}
+use Rattle.bus.specs.Devices.{emptyBus}
 use Rattle.bus.specs.Events.{requestReply}
 use Rattle.bus.specs.declared.Bus.{Bus}
 use Rattle.bus.specs.declared.Reply.{Reply}

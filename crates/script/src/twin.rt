@@ -1,6 +1,6 @@
 // From the bytes of some lines to the bytes of their answers.
 ghost use mathlib.Core.Path.{_≡_};
-ghost use Rattle.bus.specs.Bus.{busOk};
+ghost use Rattle.bus.specs.Devices.{busOk};
 ghost use Rattle.text.specs.Run.{Runs};
 ghost use Rattle.script.specs.Twin.{freshState, nextNumber, replyTo, twin};
 use crate::answer::write_answer;

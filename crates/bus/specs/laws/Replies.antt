@@ -15,7 +15,7 @@ use Rattle.device.specs.WellFormed.{wellFormed}
 use Rattle.refusals.specs.Refusals.{Refusal, codeOf}
 use Rattle.refusals.specs.laws.Refusals.{positive, NoneHolds, accepted, Exact, exact}
 use Rattle.basics.specs.First.{allFirst}
-use Rattle.bus.specs.Bus.{busOk}
+use Rattle.bus.specs.Devices.{busOk}
 use Rattle.bus.specs.Replies.{refusedWith, answer}
 use Rattle.bus.specs.Add.{isUnknown, isBarred}
 use Rattle.bus.specs.declared.Bus.{Bus}

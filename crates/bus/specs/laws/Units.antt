@@ -9,7 +9,7 @@ use Rattle.device.specs.Wait.{isOwn, ownDuration}
 use Rattle.device.specs.laws.Wait.{own-is-own, own-amount, bare-overruns}
 use Rattle.device.specs.declared.Device.{Device}
 use Rattle.refusals.specs.Refusals.{least, codeOf}
-use Rattle.bus.specs.Bus.{deviceAt}
+use Rattle.bus.specs.Devices.{deviceAt}
 use Rattle.bus.specs.Replies.{answer}
 use Rattle.bus.specs.Place.{changeRefusals, afterChange, isTooLong, questionRefusals, valueOf}
 use Rattle.bus.specs.Units.{isTooLongFor, waitForReply, litForReply}

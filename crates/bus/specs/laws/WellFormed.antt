@@ -25,7 +25,7 @@ use Rattle.refusals.specs.Refusals.{holdsAt}
 use Rattle.refusals.specs.laws.Refusals.{positive, NoneHolds, none-at}
 use Rattle.basics.specs.First.{allFirst}
 use Rattle.basics.specs.laws.First.{all-at, all-set, all-added, all-mapped}
-use Rattle.bus.specs.Bus.{busOk, hasDevice, deviceAt, withDevice, withAdded, busAfter}
+use Rattle.bus.specs.Devices.{busOk, hasDevice, deviceAt, withDevice, withAdded, busAfter}
 use Rattle.bus.specs.Add.{isBarred, addedTo}
 use Rattle.bus.specs.Signals.{signalOf}
 use Rattle.bus.specs.Place.{changeRefusals, afterChange, questionRefusals}

@@ -15,7 +15,7 @@ use Rattle.device.specs.Output.{driverOutput, lampLit}
 use Rattle.device.specs.Wait.{overruns}
 use Rattle.device.specs.declared.Device.{Device}
 use Rattle.refusals.specs.Refusals.{least, codeOf}
-use Rattle.bus.specs.Bus.{deviceAt}
+use Rattle.bus.specs.Devices.{deviceAt}
 use Rattle.bus.specs.Replies.{answer}
 use Rattle.bus.specs.Place.{questionRefusals}
 use Rattle.bus.specs.Events.{stepReply, stepRefusals, stepDone, litReply}

@@ -26,7 +26,7 @@ use Rattle.device.specs.Output.{pairOf, ledoutOf}
 use Rattle.device.specs.laws.WellFormed.{well}
 use Rattle.device.specs.declared.Device.{Device}
 use Rattle.device.specs.declared.Phase.the-variants.{Idle}
-use Rattle.bus.specs.Bus.{busOk}
+use Rattle.bus.specs.Devices.{busOk}
 use Rattle.duty.specs.Output.{Output, Stands}
 use Rattle.bus.specs.declared.Bus.{Bus}
 

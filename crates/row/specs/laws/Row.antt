@@ -18,7 +18,7 @@ use Rattle.device.specs.declared.Phase.{Phase}
 use Rattle.protocol.specs.Signals.{inTurn, phaseAfterSignal}
 use Rattle.refusals.specs.Refusals.{refuse, least, codeOf}
 use Rattle.refusals.specs.laws.Refusals.{exact}
-use Rattle.bus.specs.Bus.{busOk, emptyBus}
+use Rattle.bus.specs.Devices.{busOk, emptyBus}
 use Rattle.bus.specs.Replies.{answer}
 use Rattle.bus.specs.Signals.{signalOf, isTooLarge}
 use Rattle.bus.specs.Events.{stepReply, stepRefusals, stepDone}

@@ -12,7 +12,7 @@ use Rattle.device.specs.Reset.{fresh}
 use Rattle.device.specs.Wait.{afterWait}
 use Rattle.device.specs.laws.WellFormed.{well-formed-ok}
 use Rattle.refusals.specs.Refusals.{least, codeOf}
-use Rattle.bus.specs.Bus.{busOk, hasDevice, deviceAt}
+use Rattle.bus.specs.Devices.{busOk, hasDevice, deviceAt}
 use Rattle.bus.specs.Place.{changeRefusals, afterChange}
 use Rattle.bus.specs.Replies.{answer}
 use Rattle.bus.specs.Events.{stepReply, stepRefusals, stepDone, waitReply}

@@ -26,7 +26,7 @@ free (b ∷ p) h =
       | fails e ↦ (e, free p (le-of-suc-le-suc (rw e at h)))
     ]
 
-pub free-end : (p : List ℕ) → Free p → endOf p ≡ length p
+free-end : (p : List ℕ) → Free p → endOf p ≡ length p
 unfolding Free endOf
 free-end [] f = refl
 free-end (b ∷ p) f = rw (f .0) (ap suc (free-end p (f .1)))
@@ -36,6 +36,10 @@ unfolding Free
 free-take zero p f = tt
 free-take (suc n) [] f = tt
 free-take (suc n) (b ∷ p) f = (f .0, free-take n p (f .1))
+
+-- the start of a line whose end is still to come
+pub begun-take : (n : ℕ) (p : List ℕ) → length p ≤ endOf p → endOf (take n p) ≡ length (take n p)
+begun-take n p h = free-end (take n p) (free-take n p (free p h))
 
 -- bytes without a line feed in front of the first line
 unfoldable pub glue : List ℕ → List (List ℕ) → List (List ℕ)

@@ -7,7 +7,7 @@ use Rattle.chip.specs.Kinds.{chipNumbered}
 use Rattle.refusals.specs.Refusals.{refuse}
 use Rattle.refusals.specs.laws.Refusals.{refused-first, refused-more}
 use Rattle.bus.specs.Add.{isUnknown, isBarred}
-use Rattle.bus.specs.Bus.{busOk}
+use Rattle.bus.specs.Devices.{busOk}
 use borrow.Author.Needs.{needs}
 use Rattle.bus.proofs.add.add_code.Statement.{statement}
 use Rattle.bus.proofs.add.add_code.Tie as tie

@@ -1,6 +1,6 @@
 -- A count above eight is not well formed; otherwise each device decides.
 use borrow.Author.Tests.{le-leb, lt-leb}
-use Rattle.bus.specs.Bus.{busOk}
+use Rattle.bus.specs.Devices.{busOk}
 use borrow.Author.Needs.{needs}
 use Rattle.bus.proofs.devices.is_ok.Statement.{statement}
 use Rattle.bus.proofs.devices.is_ok.Tie as tie

@@ -4,7 +4,7 @@ use mathlib.Core.Bool.{not}
 use mathlib.Core.List.{[], _∷_}
 use Rattle.refusals.specs.Refusals.{refuse}
 use Rattle.refusals.specs.laws.Refusals.{refused-first, refused-more}
-use Rattle.bus.specs.Bus.{hasDevice}
+use Rattle.bus.specs.Devices.{hasDevice}
 use borrow.Author.Needs.{needs}
 use Rattle.bus.proofs.place.place_code.Statement.{statement}
 use Rattle.bus.proofs.place.place_code.Tie as tie

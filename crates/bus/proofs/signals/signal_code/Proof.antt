@@ -5,7 +5,7 @@ use mathlib.Core.List.{[], _∷_}
 use Rattle.protocol.specs.Signals.{inTurn}
 use Rattle.refusals.specs.Refusals.{refuse}
 use Rattle.refusals.specs.laws.Refusals.{refused-first, refused-more}
-use Rattle.bus.specs.Bus.{busOk}
+use Rattle.bus.specs.Devices.{busOk}
 use Rattle.bus.specs.Signals.{signalOf}
 use borrow.Author.Needs.{needs}
 use Rattle.bus.proofs.signals.signal_code.Statement.{statement}

@@ -2,7 +2,7 @@
 use mathlib.Core.Path.{refl, sym, _∙_}
 use native.Mathlib.Omega.{arith}
 use Rattle.refusals.specs.laws.Refusals.{accepted}
-use Rattle.bus.specs.Bus.{deviceAt}
+use Rattle.bus.specs.Devices.{deviceAt}
 use Rattle.bus.specs.Units.{litForRefusals, litForReply}
 use Rattle.bus.specs.laws.Place.{output-byte}
 use Rattle.bus.specs.laws.Replies.{answered, turned-away}

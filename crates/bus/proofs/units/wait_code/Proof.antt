@@ -3,7 +3,7 @@ use mathlib.Core.Path.{ap, _∙_}
 use mathlib.Core.List.{[], _∷_}
 use mathlib.Core.List.{_++_}
 use Rattle.device.specs.Wait.{overrunsFor}
-use Rattle.bus.specs.Bus.{deviceAt}
+use Rattle.bus.specs.Devices.{deviceAt}
 use Rattle.refusals.specs.Refusals.{refuse}
 use Rattle.refusals.specs.laws.Refusals.{refused-more}
 use Rattle.bus.specs.Place.{placeRefusals}

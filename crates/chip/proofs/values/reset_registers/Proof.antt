@@ -4,17 +4,13 @@ use borrow.Author.Needs.{needs}
 use Rattle.chip.proofs.values.reset_registers.Statement.{statement}
 use Rattle.chip.proofs.values.reset_registers.Tie as tie
 
-driver-resets-requires : tie.Need-driver-resets-requires
-driver-resets-requires c κs = simp (c .enum-told .given .1)
-
-driver-resets-requires-2 : tie.Need-driver-resets-requires-2
-driver-resets-requires-2 c κs = simp (c .enum-told2 .given .1)
-
 returns : tie.Need-returns
-returns c = c .driver-resets .ensures
+unfolding resetRegisters
+returns c = simp (c .pca9635-resets .ensures, c .before .enum-told .given .1)
 
 returns-2 : tie.Need-returns-2
-returns-2 c = c .driver-resets2 .ensures
+unfolding resetRegisters
+returns-2 c = simp (c .pca9634-resets .ensures, c .before .enum-told2 .given .1)
 
 returns-3 : tie.Need-returns-3
 unfolding resetRegisters
@@ -29,9 +25,9 @@ reset-registers-spec =
     tie.close
     (tie.spec
     (λ c. search needs)
-    driver-resets-requires
+    (λ c κs. search needs)
     (λ c. search needs)
-    driver-resets-requires-2
+    (λ c κs. search needs)
     (λ c. search needs)
     (λ c κs. search needs)
     (λ c. search needs)

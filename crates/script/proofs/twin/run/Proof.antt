@@ -2,7 +2,7 @@
 use Rattle.text.specs.laws.Run.{Did, did-none, did-more, did-all}
 use Rattle.script.specs.Twin.{afterLine, answerTo, twin}
 use Rattle.script.specs.Promises.{reply-shape}
-use Rattle.bus.specs.Bus.{busOk}
+use Rattle.bus.specs.Devices.{busOk}
 use denote.Ref.{now}
 use native.Mathlib.Omega.{arith}
 use borrow.Author.Needs.{needs}
