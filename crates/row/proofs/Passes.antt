@@ -11,6 +11,7 @@ use mathlib.Core.Bool.{Bool, true, false, _||_, cond}
 use mathlib.Core.List.{List, [], _∷_, _++_, append-nil}
 use lib.Dec.{ltb, eqb}
 use lib.ListN.{length, getD, set, take, drop, drop-of-length-le}
+use lib.Seq.{take-all}
 use borrow.Author.Tests.{lt-ltb, le-ltb, ltb-false, ne-eqb}
 use Rattle.chip.specs.declared.Chip.the-variants.{Pca9635}
 use Rattle.device.specs.Reset.{fresh}
@@ -53,10 +54,6 @@ over-more z k [] dst h l = absurd (omega arith)
 over-more z k (s ∷ src) [] h l = absurd (omega arith)
 over-more z zero (s ∷ src) (d ∷ dst) h l = refl
 over-more z (suc k) (s ∷ src) (d ∷ dst) h l = ap (λ (t : List _). s ∷ t) (over-more z k src dst (le-of-suc-le-suc h) (le-of-suc-le-suc l))
-
-take-all : {A : Type 0} (l : List A) → take (length l) l ≡ l
-take-all [] = refl
-take-all (x ∷ l) = ap (λ (t : List _). x ∷ t) (take-all l)
 
 -- a row whose every element is replaced
 over-all : {A : Type 0} (n : ℕ) (src dst : List A) → length dst ≤ n → over n src dst ≡ take n src
@@ -174,7 +171,7 @@ module _ (p : Phase) (e : SignalEvent) where
 
   filled-is : (xs : List Device) → filled xs ≡ rowBus p xs
   filled-is xs =
-      ap (λ (ds : List Device). record { phase = p; count = length xs; devices = ds ++ drop (length xs) (emptyBus .devices) }) (take-all xs)
+      ap (λ (ds : List Device). record { phase = p; count = length xs; devices = ds ++ drop (length xs) (emptyBus .devices) }) (take-all (length xs) xs (le-refl (length xs)))
 
   abbrev replied : List Device → Reply
   replied xs = stepReply (filled xs) (Signal e)

@@ -1,19 +1,26 @@
--- What a change or a question that is not refused comes with is a byte.
-use mathlib.Core.Path.{_≡_, refl}
+-- A change or a question at a position: its code is that of the position and of the device there, and what one that is not refused comes with is a byte.
+use mathlib.Core.Path.{_≡_, refl, ap, _∙_}
 use mathlib.Core.Bool.{false}
+use mathlib.Core.List.{List, _++_}
 use Prim.Native.Nat.{ℕ, _<_}
 use native.Mathlib.Omega.{arith}
 use borrow.Author.Tests.{leb-false, ltb-false}
 use Rattle.chip.specs.Kinds.{outputsOf}
 use Rattle.chip.specs.laws.Registers.{outputs-few}
 use Rattle.device.specs.declared.Device.{Device}
-use Rattle.refusals.specs.Refusals.{codeOf}
-use Rattle.refusals.specs.laws.Refusals.{accepted}
-use Rattle.bus.specs.Place.{changeRefusals, isMissing, questionRefusals}
+use Rattle.refusals.specs.Refusals.{Refusal, least, codeOf}
+use Rattle.refusals.specs.laws.Refusals.{refused-both, accepted}
+use Rattle.bus.specs.Devices.{deviceAt}
+use Rattle.bus.specs.Place.{placeRefusals, changeRefusals, isMissing, questionRefusals}
+use Rattle.bus.specs.declared.Bus.{Bus}
 use Rattle.bus.specs.declared.Change.{Change}
 use Rattle.bus.specs.declared.Change.the-variants.{Ext}
 use Rattle.bus.specs.declared.Question.{Question}
 use Rattle.bus.specs.declared.Question.the-variants.{Lit, Pin}
+
+-- the code of a position, and that of the device which stands there
+pub placed-code : (b : Bus) (dev : ℕ) (own : Device → List Refusal) (d : Device) (j k r : ℕ) → d ≡ deviceAt b dev → j ≡ codeOf (placeRefusals b dev) → k ≡ codeOf (own d) → r ≡ least j k → r ≡ codeOf (placeRefusals b dev ++ own (deviceAt b dev))
+placed-code b dev own d j k r e p q = refused-both (placeRefusals b dev) (own (deviceAt b dev)) j k r p (q ∙ ap (λ (x : Device). codeOf (own x)) e)
 
 module _ (d : Device) where
   pub ext-byte : (c : Change) (level : ℕ) → c ≡ Ext level → codeOf (changeRefusals d c) ≡ 0 → level < 256

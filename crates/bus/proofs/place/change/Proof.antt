@@ -1,10 +1,9 @@
 -- By its code, which is that of the position and of the change, the device changed or a refusal.
-use mathlib.Core.Path.{sym, ap, _∙_}
-use Rattle.refusals.specs.laws.Refusals.{least-none, refused-both}
-use Rattle.refusals.specs.Refusals.{codeOf}
+use mathlib.Core.Path.{sym, _∙_}
+use Rattle.refusals.specs.laws.Refusals.{least-none}
+use Rattle.bus.specs.laws.Place.{placed-code}
 use Rattle.bus.specs.laws.Replies.{answered, turned-away}
-use Rattle.bus.specs.Devices.{deviceAt}
-use Rattle.bus.specs.Place.{placeRefusals, changeRefusals}
+use Rattle.bus.specs.Place.{changeRefusals}
 use Rattle.bus.specs.Events.{stepRefusals, stepDone, stepReply}
 use borrow.Author.Needs.{needs}
 use Rattle.bus.proofs.place.change.Statement.{statement}
@@ -25,7 +24,7 @@ returns c =
     let d = there .before .device-at .ensures in
     let a = there .before .before .args in
     answered _ _ _ _ _
-    (refused-both (placeRefusals (a .bus) (a .dev)) (changeRefusals (deviceAt (a .bus) (a .dev)) (a .change)) _ _ _ (there .place-code .ensures) (own .change-code .ensures ∙ ap (λ x. codeOf (changeRefusals x (a .change))) d) (code .least .ensures))
+    (placed-code (a .bus) (a .dev) (λ x. changeRefusals x (a .change)) _ _ _ _ d (there .place-code .ensures) (own .change-code .ensures) (code .least .ensures))
     (next .before .if1 .taken)
     (simp (c .done .ensures, c .before .with-device .ensures, next .after-change .ensures, d))
 
@@ -38,7 +37,7 @@ returns-2 c =
     let d = there .before .device-at .ensures in
     let a = there .before .before .args in
     turned-away _ _ _ _ _
-    (refused-both (placeRefusals (a .bus) (a .dev)) (changeRefusals (deviceAt (a .bus) (a .dev)) (a .change)) _ _ _ (there .place-code .ensures) (own .change-code .ensures ∙ ap (λ x. codeOf (changeRefusals x (a .change))) d) (code .least .ensures))
+    (placed-code (a .bus) (a .dev) (λ x. changeRefusals x (a .change)) _ _ _ _ d (there .place-code .ensures) (own .change-code .ensures) (code .least .ensures))
     (c .before .if1 .left)
     (c .refused .ensures)
 
