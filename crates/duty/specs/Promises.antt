@@ -1,5 +1,5 @@
--- Demand 3 on the answers of lit: the bounds for every bus, position, output and length, and that each bound is reached. That the buses of which it speaks exist is in `Witness`.
--- Once over the number of outputs: a driver's chip is a variable.
+-- Demand 3 on the answers of lit: the bounds for every bus, position, output and length, and that each bound is reached; and what a whole blink period has.
+-- That the buses of which these speak exist is in `Witness`. Once over the number of outputs: a driver's chip is a variable.
 use mathlib.Core.Path.{_≡_, refl, ap, _∙_}
 use mathlib.Core.Bool.{Bool, true}
 use Prim.Native.Nat.{ℕ, _+_, _-_, _*_, _≤_, _<_}
@@ -8,10 +8,12 @@ use Rattle.basics.specs.laws.Logic.{neither}
 use Rattle.lamp.specs.Window.{litTicks, countLimit, countedTicks}
 use Rattle.lamp.specs.Driver.{driverLit}
 use Rattle.lamp.specs.Duty.{Bounded}
-use Rattle.lamp.specs.Promises.{individual-duty, dimmed-duty}
+use Rattle.lamp.specs.Promises.{individual-duty, dimmed-duty, blink-period-count}
+use Rattle.lamp.specs.declared.DriverMode.{DriverMode}
 use Rattle.lamp.specs.declared.DriverMode.the-variants as Mode
+use Rattle.chip.specs.Kinds.{outputsOf}
 use Rattle.device.specs.Registers.{isAwake}
-use Rattle.device.specs.Output.{lampLit, litOf}
+use Rattle.device.specs.Output.{driverOutput, lampLit, litOf}
 use Rattle.device.specs.Wait.{overruns}
 use Rattle.device.specs.declared.Device.{Device}
 use Rattle.bus.specs.Devices.{deviceAt}
@@ -22,8 +24,8 @@ use Rattle.bus.specs.declared.Bus.{Bus}
 use Rattle.bus.specs.declared.Event.the-variants.{Ask}
 use Rattle.bus.specs.declared.Question.the-variants.{Lit}
 use Rattle.bus.specs.declared.Reply.{Reply}
-use Rattle.duty.specs.Output.{Individual, Dimmed, Stands}
-use Rattle.duty.specs.laws.Lit.{in-limit, individual-mode, dimmed-mode, counts, lit-accepted}
+use Rattle.duty.specs.Output.{Output, Individual, Dimmed, Blinking, Stands}
+use Rattle.duty.specs.laws.Lit.{in-limit, individual-mode, dimmed-mode, blinking-mode, counts, lit-accepted}
 
 -- ---- lit's value is the tick-by-tick sum
 
@@ -37,13 +39,14 @@ lit-sum b dev out w c a =
 
 -- ---- what an output follows
 
+counted : (m : DriverMode) (mode N : ℕ) (b : Bus) (dev out w : ℕ) → Output (deviceAt b dev) out mode N → driverOutput (deviceAt b dev) (outputsOf (deviceAt b dev .chip)) out ≡ m → litReply b dev out w .code ≡ 0 → litReply b dev out w .value ≡ litTicks (driverLit m) (deviceAt b dev .count) w
+counted m mode N b dev out w o e c = lit-sum b dev out w c (o .awake) ∙ counts (deviceAt b dev) out w mode N m o e
+
 individual-counts : (N : ℕ) (b : Bus) (dev out w : ℕ) → Individual (deviceAt b dev) out N → litReply b dev out w .code ≡ 0 → litReply b dev out w .value ≡ litTicks (driverLit (Mode.Individual N)) (deviceAt b dev .count) w
-individual-counts N b dev out w o c =
-    lit-sum b dev out w c (o .awake) ∙ counts (deviceAt b dev) out w 2 N (Mode.Individual N) o (individual-mode (deviceAt b dev) out N o)
+individual-counts N b dev out w o = counted (Mode.Individual N) 2 N b dev out w o (individual-mode (deviceAt b dev) out N o)
 
 dimmed-counts : (M N : ℕ) (b : Bus) (dev out w : ℕ) → Dimmed (deviceAt b dev) out M N → litReply b dev out w .code ≡ 0 → litReply b dev out w .value ≡ litTicks (driverLit (Mode.Dimmed N M)) (deviceAt b dev .count) w
-dimmed-counts M N b dev out w o c =
-    lit-sum b dev out w c (o .output .awake) ∙ counts (deviceAt b dev) out w 3 N (Mode.Dimmed N M) (o .output) (dimmed-mode (deviceAt b dev) out M N o)
+dimmed-counts M N b dev out w o = counted (Mode.Dimmed N M) 3 N b dev out w (o .output) (dimmed-mode (deviceAt b dev) out M N o)
 
 -- ---- the bounds, over every window
 
@@ -101,3 +104,11 @@ dimmed-reached M N hM hN =
       reached (driverLit (Mode.Dimmed N M)) (λ d out. Dimmed d out M N) (Above 65536 (M * N) B) (dimmed-counts M N) (D .above .0) (D .above .1) (D .above .2) (D .above .3),
       reached (driverLit (Mode.Dimmed N M)) (λ d out. Dimmed d out M N) (Below 65536 (M * N) B) (dimmed-counts M N) (D .below .0) (D .below .1) (D .below .2) (D .below .3),
     )
+
+-- ---- a whole blink period
+
+-- from whatever tick it starts, not only from a multiple of the period
+pub blink-period-lit : (G M N : ℕ) → M < 256 → N < 256 → (b : Bus) (dev out : ℕ) → Blinking (deviceAt b dev) out G M N → litReply b dev out ((G + 1) * 1048576) .code ≡ 0 → litReply b dev out ((G + 1) * 1048576) .value ≡ 16 * M * N * (G + 1)
+blink-period-lit G M N hM hN b dev out o c =
+    counted (Mode.Blinking N M G) 3 N b dev out ((G + 1) * 1048576) (o .output) (blinking-mode (deviceAt b dev) out G M N o) c
+    ∙ blink-period-count G M N hM hN (deviceAt b dev .count)

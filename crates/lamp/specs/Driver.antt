@@ -1,5 +1,5 @@
 -- When an output of a driver (the PCA9635, the PCA9634) is lit (RULES, Lamps).
-use Prim.Native.Nat.{ℕ, _+_, _*_, _/_, _%_}
+use Prim.Native.Nat.{ℕ, _+_, _*_, _%_}
 use mathlib.Core.Bool.{Bool, true, false, _&&_, cond}
 use lib.Dec.{ltb, eqb}
 use Rattle.lamp.specs.declared.DriverMode.{DriverMode}
@@ -17,12 +17,12 @@ grouped P L N t = individual N t && ltb (t % P) L
 abbrev pub dimmed : ℕ → ℕ → ℕ → Bool
 dimmed M N = grouped 131072 (512 * M) N
 
--- group blinking (DMBLNK 1) with GRPFREQ G and GRPPWM M: its period, and the ticks for which its group test holds, each rounded down
+-- group blinking (DMBLNK 1) with GRPFREQ G and GRPPWM M: its period, and the first ticks of each for which its group test holds
 abbrev pub blinkPeriod : ℕ → ℕ
-blinkPeriod G = 25000000 * (G + 1) / 24
+blinkPeriod G = (G + 1) * 1048576
 
 abbrev pub blinkOn : ℕ → ℕ → ℕ
-blinkOn G M = M * blinkPeriod G / 256
+blinkOn G M = M * (G + 1) * 4096
 
 abbrev pub blinking : ℕ → ℕ → ℕ → ℕ → Bool
 blinking G M N = grouped (blinkPeriod G) (blinkOn G M) N

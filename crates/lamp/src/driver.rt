@@ -3,12 +3,12 @@ use crate::DriverMode;
 use crate::DriverTicks;
 use crate::count;
 ghost use mathlib.Core.Path.{_≡_};
-ghost use Prim.Native.Nat.{_<_};
+ghost use Prim.Native.Nat.{_*_, _<_};
 ghost use Rattle.lamp.specs.Window.{litTicks, countedTicks};
 ghost use Rattle.lamp.specs.Driver.{grouped, blinkPeriod, blinkOn, driverMode, driverLit};
 
-// The period of group dimming, a multiple of the 256 ticks of a brightness.
-pub const DIMMING_PERIOD: u64 = 131072;
+// The period of group dimming, in ticks.
+const DIMMING_PERIOD: u64 = 131072;
 
 // The mode that a driver's registers give one of its outputs.
 pub fn driver_mode(ledout: u8, dmblnk: bool, pwm: u8, grppwm: u8, grpfreq: u8) -> DriverMode
@@ -47,18 +47,25 @@ fn grouped(period: u64, on: u64, pwm: u8, at: u64) -> bool
     }
 }
 
+// The ticks of each dimming period for which the group test holds.
+fn dimming_on(grppwm: u8) -> u64
+    ensures { λ r. ⌜ r ≡ 512 * grppwm ⌝ }
+{
+    512 * (grppwm as u64)
+}
+
 // The period of group blinking.
-pub fn blink_period(grpfreq: u8) -> u64
+fn blink_period(grpfreq: u8) -> u64
     ensures { λ r. ⌜ r ≡ blinkPeriod grpfreq ⌝ }
 {
-    25000000 * (grpfreq as u64 + 1) / 24
+    (grpfreq as u64 + 1) * 1048576
 }
 
 // The ticks of each blink period for which the group test holds.
-pub fn blink_on(grppwm: u8, grpfreq: u8) -> u64
+fn blink_on(grppwm: u8, grpfreq: u8) -> u64
     ensures { λ r. ⌜ r ≡ blinkOn grpfreq grppwm ⌝ }
 {
-    grppwm as u64 * blink_period(grpfreq) / 256
+    grppwm as u64 * (grpfreq as u64 + 1) * 4096
 }
 
 // Whether a driver's output is lit at a tick.
@@ -70,7 +77,7 @@ pub fn driver_lit(mode: DriverMode, at: DriverTicks) -> bool
         DriverMode::On => true,
         DriverMode::Individual { pwm } => at.0 % 256 < pwm as u64,
         DriverMode::Dimmed { pwm, grppwm } => {
-            grouped(DIMMING_PERIOD, 512 * (grppwm as u64), pwm, at.0)
+            grouped(DIMMING_PERIOD, dimming_on(grppwm), pwm, at.0)
         }
         DriverMode::Blinking {
             pwm,
@@ -88,12 +95,14 @@ fn driver_count(mode: DriverMode, x: u64) -> u64
         DriverMode::Off => 0,
         DriverMode::On => x,
         DriverMode::Individual { pwm } => count::duty(256, pwm as u64, x),
-        DriverMode::Dimmed { pwm, grppwm } => count::dimmed(pwm, grppwm, x),
+        DriverMode::Dimmed { pwm, grppwm } => {
+            count::grouped(DIMMING_PERIOD, dimming_on(grppwm), pwm, x)
+        }
         DriverMode::Blinking {
             pwm,
             grppwm,
             grpfreq,
-        } => count::blinking(pwm, grppwm, grpfreq, x),
+        } => { count::grouped(blink_period(grpfreq), blink_on(grppwm, grpfreq), pwm, x) }
     }
 }
 

@@ -19,7 +19,7 @@ use Rattle.bus.specs.Devices.{deviceAt}
 use Rattle.bus.specs.Replies.{answer}
 use Rattle.bus.specs.Place.{questionRefusals}
 use Rattle.bus.specs.Events.{stepReply, stepRefusals, stepDone, litReply}
-use Rattle.duty.specs.Output.{Output, Individual, Dimmed, Stands}
+use Rattle.duty.specs.Output.{Output, Individual, Dimmed, Blinking, Stands}
 use Rattle.bus.specs.declared.Bus.{Bus}
 
 pub in-limit : (d : Device) (w : ℕ) → isAwake d ≡ true → overruns d w ≡ false → leb (d .count + w) countLimit ≡ true
@@ -37,6 +37,10 @@ individual-mode d out N o = rw (o .mode-is, o .brightness) refl
 pub dimmed-mode : (d : Device) (out M N : ℕ) → Dimmed d out M N → driverOutput d (outputsOf (d .chip)) out ≡ Mode.Dimmed N M
 unfolding driverOutput
 dimmed-mode d out M N o = rw (o .output .mode-is, o .steady, o .output .brightness, o .dimming) refl
+
+pub blinking-mode : (d : Device) (out G M N : ℕ) → Blinking d out G M N → driverOutput d (outputsOf (d .chip)) out ≡ Mode.Blinking N M G
+unfolding driverOutput
+blinking-mode d out G M N o = rw (o .output .mode-is, o .blinks, o .output .brightness, o .dimming, o .frequency) refl
 
 -- the lit ticks of an awake driver's output are those of the mode that it follows
 pub counts : (d : Device) (out w mode N : ℕ) (m : DriverMode) → Output d out mode N → driverOutput d (outputsOf (d .chip)) out ≡ m → litTicks (lampLit d out) (d .count) w ≡ litTicks (driverLit m) (d .count) w

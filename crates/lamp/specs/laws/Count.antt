@@ -1,10 +1,11 @@
 -- Prefix counts. `Counts lit F` says that F x is the number of lit ticks among the first x; F then gives every window's count (`window`).
--- `every`, `opposite`, `gate` and `cycle` make prefix counts, and the closed form of each mode is put together of them.
+-- `every`, `first`, `opposite`, `only` and `cycle` make prefix counts, and the closed form of each mode is put together of them.
 use mathlib.Core.Path.{_≡_, refl, sym, ap, _∙_}
 use mathlib.Core.Logic.{_⊎_, inl, inr}
 use mathlib.Core.Bool.{Bool, true, false, not, _&&_, and-true, and-false}
 use Prim.Native.Nat.{ℕ, zero, suc, min, _+_, _-_, _*_, _/_, _%_, _^_, _≤_, _<_}
-use native.Mathlib.Nat.{le-of-lt, le-step, zero-min, zero-div, zero-mod, zero-add, add-suc, add-zero, mod-lt, div-add-mod', mod-mod-of-dvd, dvd-of-mod-eq-zero, min-eq-left, min-eq-right, mul-le-mul-right, eq-or-lt-of-le}
+use native.Mathlib.Nat.{le-of-lt, zero-min, zero-div, zero-mod, zero-add, add-suc, add-zero, mod-lt, div-add-mod', min-eq-left, min-eq-right, mul-le-mul-right, eq-or-lt-of-le}
+use native.Mathlib.Numerals.{add-one}
 use native.Mathlib.Omega.{arith}
 use lib.Dec.{ltb, leb, lit<}
 use lib.Arith.{digits-lt, mod-mul}
@@ -12,7 +13,7 @@ use borrow.Author.Tests.{lt-ltb, le-ltb, le-leb, lt-leb, leb-true, ltb-true, ltb
 use Rattle.basics.specs.laws.Division.{div-mod-of}
 use Rattle.basics.specs.laws.Logic.{tested, holds, fails}
 use Rattle.lamp.specs.Window.{oneIf, litTicks, countLimit, countedTicks}
-use Rattle.lamp.specs.Driver.{individual, grouped, dimmed}
+use Rattle.lamp.specs.Driver.{individual, grouped, dimmed, blinkPeriod, blinkOn, blinking}
 use Rattle.lamp.specs.Blinker.{stepCount, litBelow, litFrom}
 
 pub record Counts (lit : ℕ → Bool) (F : ℕ → ℕ) : Type 0 where
@@ -88,14 +89,24 @@ opposite {lit} C e = record { start = omega arith; step = λ x. rw (e x) (omega 
     one true = refl
     one false = refl
 
--- only the ticks before L
-pub gate : {lit : ℕ → Bool} {F : ℕ → ℕ} (L : ℕ) → Counts lit F → Counts (λ x. lit x && ltb x L) (λ x. F (min x L))
-gate {lit} {F} L C = record { start = rw zero-min (C .start); step = next }
+-- the first L ticks
+first : (L : ℕ) → Counts (λ x. ltb x L) (λ x. min x L)
+first L = record { start = zero-min L; step = next }
   where
-    next : (x : ℕ) → F (min (suc x) L) ≡ F (min x L) + oneIf (lit x && ltb x L)
+    next : (x : ℕ) → min (suc x) L ≡ min x L + oneIf (ltb x L)
     next x = elim (tested (ltb x L)) [
-      | holds e ↦ rw (e, and-true, min-eq-left (ltb-true x L e), min-eq-left (le-of-lt (ltb-true x L e))) (C .step x)
-      | fails e ↦ rw (e, and-false, min-eq-right (ltb-false x L e), min-eq-right (le-step (ltb-false x L e))) (omega arith)
+      | holds e ↦ rw e (omega (arith, ltb-true x L e))
+      | fails e ↦ rw e (omega (arith, ltb-false x L e))
+    ]
+
+-- the lit ones among the ticks at which `on` holds, where such a tick x, which is number A x among them, is lit as the tick A x is
+only : {lit on : ℕ → Bool} {F A : ℕ → ℕ} → Counts lit F → Counts on A → ((x : ℕ) → on x ≡ true → lit (A x) ≡ lit x) → Counts (λ x. lit x && on x) (λ x. F (A x))
+only {lit} {on} {F} {A} C D alike = record { start = rw (D .start) (C .start); step = next }
+  where
+    next : (x : ℕ) → F (A (suc x)) ≡ F (A x) + oneIf (lit x && on x)
+    next x = elim (tested (on x)) [
+      | holds e ↦ rw (D .step x, e, and-true, add-one, C .step (A x), alike x e) refl
+      | fails e ↦ rw (D .step x, e, and-false, add-zero (A x)) (omega arith)
     ]
 
 -- the first P ticks, again and again
@@ -118,32 +129,63 @@ dutyCount P L x = x / P * L + min (x % P) L
 
 pub duty-counts : {P L : ℕ} → 0 < P → L ≤ P → Counts (λ x. ltb (x % P) L) (dutyCount P L)
 unfolding dutyCount
-duty-counts {P} {L} pos h = cycle P pos (gate L every) (min-eq-right h)
+duty-counts {P} {L} pos h = cycle P pos (first L) (min-eq-right h)
 
 pub duty-at : (L q : ℕ) {P r x : ℕ} → r < P → x ≡ q * P + r → dutyCount P L x ≡ q * L + min r L
 unfolding dutyCount
 duty-at L q h e = rw (div-mod-of q h e .0, div-mod-of q h e .1) refl
 
+-- k whole periods more, wherever they begin
+pub duty-more : (P L k x : ℕ) → 0 < P → dutyCount P L (k * P + x) ≡ k * L + dutyCount P L x
+unfolding dutyCount
+duty-more P L k x pos =
+    let p : ((k * P + x) / P ≡ k + x / P) × ((k * P + x) % P ≡ x % P) = div-mod-of (k + x / P) (mod-lt x pos) (omega (arith, div-add-mod' x P)) in
+    rw (p .0, p .1) (omega arith)
+
 pub individual-counts : {N : ℕ} → N ≤ 256 → Counts (individual N) (dutyCount 256 N)
 unfolding individual
 individual-counts h = duty-counts (lit< tt) h
 
--- brightness N within the first L ticks of each P, where P is a multiple of 256
-unfoldable pub groupCount : ℕ → ℕ → ℕ → ℕ → ℕ
-groupCount P L N x = x / P * dutyCount 256 N L + dutyCount 256 N (min (x % P) L)
+-- brightness N within the first L ticks of each P, both multiples of 256: the ticks at which the group test holds are counted first, and N of each 256 of them
+abbrev pub groupCount : ℕ → ℕ → ℕ → ℕ → ℕ
+groupCount P L N x = dutyCount 256 N (dutyCount P L x)
 
-group-counts : {P L N : ℕ} → 0 < P → P % 256 ≡ 0 → L ≤ P → N ≤ 256 → Counts (grouped P L N) (groupCount P L N)
-unfolding grouped groupCount individual
-group-counts {P} {L} {N} pos whole hL hN =
-    same (cycle P pos (gate L (individual-counts hN)) (ap (dutyCount 256 N) (min-eq-right hL)))
-    (λ x. rw (mod-mod-of-dvd 256 x (dvd-of-mod-eq-zero 256 whole)))
+-- a tick at which the group test holds is at the same place of its 256 as its number among such ticks
+same-place : (P L x : ℕ) → P % 256 ≡ 0 → L % 256 ≡ 0 → x % P < L → dutyCount P L x % 256 ≡ x % 256
+unfolding dutyCount
+same-place P L x hP hL h =
+    let p : P ≡ P / 256 * 256 = omega arith in
+    let l : L ≡ L / 256 * 256 = omega arith in
+    rw (min-eq-left (le-of-lt h)) (omega (arith, div-add-mod' x P, ap (λ (n : ℕ). x / P * n) p, ap (λ (n : ℕ). x / P * n) l))
+
+pub group-counts : {P L N : ℕ} → 0 < P → P % 256 ≡ 0 → L % 256 ≡ 0 → L ≤ P → N ≤ 256 → Counts (grouped P L N) (groupCount P L N)
+unfolding grouped individual
+group-counts {P} {L} {N} pos hP hL h hN =
+    only (individual-counts hN) (duty-counts pos h) (λ x e. ap (λ (n : ℕ). ltb n N) (same-place P L x hP hL (ltb-true (x % P) L e)))
+
+-- k whole periods more, wherever they begin
+pub group-more : (P L N k x : ℕ) → 0 < P → L % 256 ≡ 0 → groupCount P L N (k * P + x) ≡ k * (L / 256 * N) + groupCount P L N x
+group-more P L N k x pos hL =
+    let l : L ≡ L / 256 * 256 = omega arith in
+    let e : k * L + dutyCount P L x ≡ k * (L / 256) * 256 + dutyCount P L x = omega (arith, ap (λ (n : ℕ). k * n) l) in
+    rw (duty-more P L k x pos, e, duty-more 256 N (k * (L / 256)) (dutyCount P L x) (lit< tt)) (omega arith)
 
 pub dimmed-counts : {M N : ℕ} → M < 256 → N < 256 → Counts (dimmed M N) (groupCount 131072 (512 * M) N)
-dimmed-counts hM hN = group-counts (lit< tt) refl (omega arith) (le-of-lt hN)
+dimmed-counts hM hN = group-counts (lit< tt) refl (omega arith) (omega arith) (le-of-lt hN)
 
-pub group-at : (L N q : ℕ) {P r x : ℕ} → r < P → x ≡ q * P + r → groupCount P L N x ≡ q * dutyCount 256 N L + dutyCount 256 N (min r L)
-unfolding groupCount
-group-at L N q h e = rw (div-mod-of q h e .0, div-mod-of q h e .1) refl
+pub blink-on-within : (G M : ℕ) → M < 256 → blinkOn G M ≤ blinkPeriod G
+blink-on-within G M h = omega (arith, mul-le-mul-right (G + 1) (le-of-lt h))
+
+pub blinking-counts : (G : ℕ) {M N : ℕ} → M < 256 → N < 256 → Counts (blinking G M N) (groupCount (blinkPeriod G) (blinkOn G M) N)
+blinking-counts G {M} hM hN =
+    group-counts (omega arith) (omega arith) (omega arith) (blink-on-within G M hM) (le-of-lt hN)
+
+-- one blink period more
+pub blink-more : (G M N x : ℕ) → groupCount (blinkPeriod G) (blinkOn G M) N (x + blinkPeriod G) ≡ 16 * M * N * (G + 1) + groupCount (blinkPeriod G) (blinkOn G M) N x
+blink-more G M N x =
+    let l : blinkOn G M / 256 ≡ 16 * M * (G + 1) = omega arith in
+    let e : 1 * blinkPeriod G + x ≡ x + blinkPeriod G = omega arith in
+    omega (arith, rw (l, e) at (group-more (blinkPeriod G) (blinkOn G M) N 1 x (omega arith) (omega arith)))
 
 -- a blinker's duty in ticks: the prescaler makes one step of q ticks, and 256 steps are the period
 below-is : (q D x : ℕ) → 0 < q → ltb (x / q % 256) D ≡ ltb (x % (256 * q)) (D * q)

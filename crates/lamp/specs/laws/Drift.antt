@@ -1,15 +1,15 @@
 -- From prefix counts to `Bounded`. A prefix count that stays between two lines strays by at most their distance (`bounded`);
 -- that it stays so is shown on one period (`cycle-between`), for individual brightness and for group dimming.
-use mathlib.Core.Path.{_≡_, refl, ap}
+use mathlib.Core.Path.{_≡_, refl, sym, ap, _∙_}
 use mathlib.Core.Logic.{⊎-elim}
 use mathlib.Core.Bool.{Bool}
 use Prim.Native.Nat.{ℕ, min, _+_, _-_, _*_, _/_, _%_, _≤_, _<_}
-use native.Mathlib.Nat.{zero-min, eq-zero-or-pos, zero-add, add-sub-of-le, sub-add-cancel, mod-lt, div-add-mod', mul-le-mul-left, mul-le-mul-right, le-of-lt, min-le-left, min-le-right, min-eq-left, min-eq-right}
+use native.Mathlib.Nat.{eq-zero-or-pos, zero-add, add-sub-of-le, sub-add-cancel, mod-lt, div-add-mod', mul-le-mul-left, mul-le-mul-right, le-of-lt, min-le-left, min-le-right, min-eq-left, min-eq-right}
 use native.Mathlib.Omega.{arith}
 use lib.Dec.{lit<, lit≤}
 use Rattle.lamp.specs.Window.{litTicks, countLimit}
 use Rattle.lamp.specs.Duty.{Bounded}
-use Rattle.lamp.specs.laws.Count.{Counts, window, dutyCount, duty-at, groupCount, individual-counts, group-at}
+use Rattle.lamp.specs.laws.Count.{Counts, window, dutyCount, duty-at, groupCount, group-more, dimmed-counts}
 
 -- ---- the general law
 
@@ -83,6 +83,16 @@ module _ (M N : ℕ) (hM : M < 256) (hN : N < 256) where
   dimmed-on : dutyCount 256 N (512 * M) ≡ 2 * M * N
   dimmed-on = omega (arith, duty-at N (2 * M) {P = 256} {r = 0} {x = 512 * M} (lit< tt) (omega arith))
 
+  -- in the first period: brightness alone, up to the end of the on part
+  dimmed-first : (r : ℕ) → r < 131072 → dimmedCount M N r ≡ dutyCount 256 N (min r (512 * M))
+  dimmed-first r k = ap (dutyCount 256 N) (omega (arith, duty-at (512 * M) 0 {P = 131072} {r = r} {x = r} k (omega arith)))
+
+  -- after k periods more
+  dimmed-more : (k x : ℕ) → dimmedCount M N (k * 131072 + x) ≡ k * (2 * M * N) + dimmedCount M N x
+  dimmed-more k x =
+      let e : 512 * M / 256 ≡ 2 * M = omega arith in
+      rw e at (group-more 131072 (512 * M) N k x (lit< tt) (omega arith))
+
   -- In the on part, after q whole periods of 256 ticks and s ticks of the next, m of them lit:
   -- the count is farthest ahead in the last such period, as its N lit ticks end.
   dimmed-peak : (q s m : ℕ) → q < 2 * M → m ≤ s → m ≤ N → 65536 * (q * N + m) ≤ (q * 256 + s) * (M * N) + dimmedBound M N
@@ -124,10 +134,10 @@ module _ (M N : ℕ) (hM : M < 256) (hN : N < 256) where
           rw (min-eq-right b, dimmed-on) (omega (arith, mul-le-mul-right (M * N) (le-of-lt k), mul-le-mul-right (M * N) d))
 
   dimmed-between : (x : ℕ) → Between 65536 (M * N) (dimmedBound M N) x (dimmedCount M N x)
-  unfolding groupCount
-  dimmed-between =
-      cycle-between (λ x. dutyCount 256 N (min x (512 * M))) (dutyCount 256 N (512 * M)) 131072 65536 (M * N) (dimmedBound M N) (lit< tt) (omega (arith, dimmed-on))
-      dimmed-period
+  dimmed-between x =
+      let e : dimmedCount M N x ≡ x / 131072 * (2 * M * N) + dimmedCount M N (x % 131072) = ap (dimmedCount M N) (sym (div-add-mod' x 131072)) ∙ dimmed-more (x / 131072) (x % 131072) in
+      rw e
+      (cycle-between (dimmedCount M N) (2 * M * N) 131072 65536 (M * N) (dimmedBound M N) (lit< tt) (omega arith) (λ r k. rw (dimmed-first r k) (dimmed-period r k)) x)
 
   -- the end of the last lit ticks of the on part
   abbrev dimmedPeak : ℕ
@@ -144,15 +154,14 @@ module _ (M N : ℕ) (hM : M < 256) (hN : N < 256) where
       let v : dimmedCount M N dimmedPeak ≡ 2 * M * N =
       omega (
         arith,
-        rw (min-eq-left near) at (group-at (512 * M) N 0 {P = 131072} {r = dimmedPeak} {x = dimmedPeak} (omega arith) (omega arith)),
+        rw (min-eq-left near) at (dimmed-first dimmedPeak (omega arith)),
         duty-at N (2 * M - 1) {P = 256} {r = N} {x = dimmedPeak} hN (omega arith),
         ap (λ (n : ℕ). n * N) all,
       ) in
       rw v (omega (arith, ap (λ (n : ℕ). M * N * n) d))
 
   dimmed-end : dimmedCount M N 131072 ≡ 2 * M * N
-  dimmed-end =
-      omega (arith, dimmed-on, rw zero-min at (group-at (512 * M) N 1 {P = 131072} {r = 0} {x = 131072} (lit< tt) refl), (individual-counts (le-of-lt hN)) .start)
+  dimmed-end = dimmed-more 1 0 ∙ omega (arith, dimmed-counts hM hN .start)
 
   pub dimmed-leads : Leads (groupCount 131072 (512 * M) N) 65536 (M * N) (M * N * (131328 - 512 * M - N))
   dimmed-leads =

@@ -1,4 +1,5 @@
 -- `lamp::driver::blink_on` meets its contract.
+use Prim.Native.Nat.{_+_}
 use native.Mathlib.Nat.{mul-le-mul-right}
 use native.Mathlib.Omega.{arith}
 use borrow.Author.Needs.{needs}
@@ -6,10 +7,10 @@ use Rattle.lamp.proofs.driver.blink_on.Statement.{statement}
 use Rattle.lamp.proofs.driver.blink_on.Tie as tie
 
 mul-result : tie.Need-mul-result
-mul-result c = omega (arith, mul-le-mul-right (c .blink-period .result) (c .before .fits .grppwm .fits))
+mul-result c = omega (arith, mul-le-mul-right (c .args .grpfreq + 1) (c .fits .grppwm .fits))
 
-returns : tie.Need-returns
-returns c = simp (c .blink-period .ensures)
+mul-result-2 : tie.Need-mul-result-2
+mul-result-2 c = omega (arith, mul-le-mul-right (c .args .grpfreq + 1) (c .fits .grppwm .fits))
 
 pub blink-on-spec : {M : Type 1} → statement M
-blink-on-spec = tie.close (tie.spec (λ c κs. search needs) mul-result returns)
+blink-on-spec = tie.close (tie.spec (λ c. search needs) mul-result mul-result-2 (λ c. search needs))

@@ -1,10 +1,15 @@
 -- `lamp::driver::driver_count` meets its contract: each mode has its closed form.
 use native.Mathlib.Omega.{arith}
 use Rattle.lamp.specs.Driver.{driverLit}
-use Rattle.lamp.specs.laws.Count.{from-zero, never, every, individual-counts}
+use Rattle.lamp.specs.laws.Count.{from-zero, never, every, individual-counts, blink-on-within}
 use borrow.Author.Needs.{needs}
 use Rattle.lamp.proofs.driver.driver_count.Statement.{statement}
 use Rattle.lamp.proofs.driver.driver_count.Tie as tie
+
+grouped-requires-2 : tie.Need-grouped-requires-2
+grouped-requires-2 c κs =
+    let f = c .before .before .before .mode3 .given .0 in
+    omega (arith, blink-on-within (f .1 .1 .0) (f .1 .0) (omega arith))
 
 returns : tie.Need-returns
 unfolding driverLit
@@ -20,11 +25,13 @@ returns-3 c = rw (c .before .before .mode .given .1, c .duty .ensures) (from-zer
 
 returns-4 : tie.Need-returns-4
 unfolding driverLit
-returns-4 c = rw (c .before .before .mode2 .given .1) (c .dimmed .ensures)
+returns-4 c = rw (c .before .before .before .mode2 .given .1) (rw (c .before .dimming-on .ensures) at (c .grouped .ensures))
 
 returns-5 : tie.Need-returns-5
 unfolding driverLit
-returns-5 c = rw (c .before .before .mode3 .given .1) (c .blinking .ensures)
+returns-5 c =
+    let b = c .before .before in
+    rw (b .before .before .mode3 .given .1) (rw (b .blink-period .ensures, c .before .blink-on .ensures) at (c .grouped2 .ensures))
 
 pub driver-count-spec : {M : Type 1} → statement M
 driver-count-spec =
@@ -37,8 +44,11 @@ driver-count-spec =
     (λ c κs. search needs)
     (λ c. search needs)
     (λ c κs. search needs)
+    (λ c κs. search needs)
     (λ c. search needs)
     (λ c κs. search needs)
+    (λ c κs. search needs)
+    grouped-requires-2
     returns
     returns-2
     returns-3

@@ -18,7 +18,7 @@ returns-3 c = rw (c .before .before .mode .given .1)
 
 returns-4 : tie.Need-returns-4
 unfolding driverLit
-returns-4 c = rw (c .before .before .mode2 .given .1) (c .grouped .ensures)
+returns-4 c = rw (c .before .before .before .mode2 .given .1) (rw (c .before .dimming-on .ensures) at (c .grouped .ensures))
 
 returns-5 : tie.Need-returns-5
 unfolding driverLit
@@ -33,8 +33,7 @@ driver-lit-spec =
     (λ c. search needs)
     (λ c. search needs)
     (λ c. search needs)
-    (λ c. search needs)
-    (λ c. search needs)
+    (λ c κs. search needs)
     (λ c κs. search needs)
     (λ c. search needs)
     (λ c κs. search needs)
