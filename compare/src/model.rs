@@ -1,7 +1,7 @@
 //! The twin as plain structs changed in place: one bus, up to eight devices.
 //!
-//! Sentences in quotation marks are those of the owner's rules paper, which
-//! docs/RULES.md condenses.
+//! Sentences in quotation marks are those of the owner's rules paper and
+//! change requests, which docs/RULES.md condenses.
 
 /// Most devices on a bus.
 pub const MAX_DEVICES: usize = 8;
@@ -748,13 +748,14 @@ impl Driver {
         self.mode2() & DMBLNK != 0
     }
 
-    /// Period and lit ticks per period of the group test.
+    /// Period and lit ticks per period of the group test. Blinking: "the
+    /// period is (G+1) times 1,048,576 ticks, lit for the first M(G+1) times
+    /// 4,096".
     pub fn group_pulse(&self) -> (u64, u64) {
         let m = self.in_effect[self.layout.grppwm as usize] as u64;
         let g = self.in_effect[self.layout.grpfreq as usize] as u64;
         if self.blinking() {
-            let period = 25_000_000 * (g + 1) / 24;
-            (period, m * period / 256)
+            ((g + 1) * 1_048_576, m * (g + 1) * 4_096)
         } else {
             (DIMMING_PERIOD, 512 * m)
         }
@@ -804,29 +805,11 @@ impl Driver {
     }
 }
 
-/// Ticks x among 0 .. end-1 with x mod 256 < n and x mod period < on.
-/// Both tests repeat together after 256 periods.
+/// Ticks x among 0 .. end-1 with x mod 256 < n and x mod period < on. Every
+/// period is a multiple of 256 ticks, so that both tests begin anew with it.
 fn group_ticks_below(end: u64, n: u64, period: u64, on: u64) -> u64 {
-    let cycle = 256 * period;
-    let whole_cycles = end / cycle;
-    let cycle_ticks = if whole_cycles > 0 {
-        group_ticks_by_period(cycle, n, period, on)
-    } else {
-        0
-    };
-    whole_cycles * cycle_ticks + group_ticks_by_period(end % cycle, n, period, on)
-}
-
-/// The same count, adding up the pulses of each period.
-fn group_ticks_by_period(end: u64, n: u64, period: u64, on: u64) -> u64 {
-    let mut sum = 0;
-    let mut start = 0;
-    while start < end {
-        let stop = end.min(start + on);
-        sum += pulse_ticks_below(stop, 256, n) - pulse_ticks_below(start, 256, n);
-        start += period;
-    }
-    sum
+    let within_period = |ticks: u64| pulse_ticks_below(ticks.min(on), 256, n);
+    end / period * within_period(period) + within_period(end % period)
 }
 
 #[derive(Clone, Copy, Debug, PartialEq, Eq)]
@@ -1073,15 +1056,21 @@ mod tests {
         }
     }
 
-    /// Windows of several blink periods, in mode 11 with DMBLNK 1 and G = 0.
+    /// An awake driver with output 0 in mode 11 and DMBLNK 1.
+    fn blinking_driver(random: &mut Random, layout: &'static Layout) -> Driver {
+        let mut driver = random_driver(random, layout);
+        driver.in_effect[layout.ledout as usize] = 0xFF;
+        driver.written[MODE2 as usize] = DMBLNK;
+        driver
+    }
+
+    /// Windows of several blink periods, with G = 0.
     #[test]
     fn both_ways_agree_over_blink_periods() {
         let mut random = Random::new(3);
         for layout in [&PCA9635, &PCA9634] {
-            let mut driver = random_driver(&mut random, layout);
+            let mut driver = blinking_driver(&mut random, layout);
             driver.in_effect[layout.grpfreq as usize] = 0;
-            driver.in_effect[layout.ledout as usize] = 0xFF;
-            driver.written[MODE2 as usize] = DMBLNK;
             driver.ticks = random.below(1 << 40);
             let chip = Chip::Driver(driver);
             let w = 5_000_000 + random.below(1000);
@@ -1090,19 +1079,32 @@ mod tests {
         }
     }
 
-    /// The repetition after 256 blink periods against adding every period.
+    /// "256 steps are 10.737 s", a tick being 40 ns; "M(G+1) times 4,096"
+    /// ticks of them are half at M = 128.
     #[test]
-    fn cycles_agree_with_single_periods() {
+    fn the_slowest_blink() {
         let mut random = Random::new(4);
-        for _ in 0..300 {
-            let (n, m, g) = (random.below(256), random.below(256), random.below(256));
-            let period = 25_000_000 * (g + 1) / 24;
-            let on = m * period / 256;
-            let end = random.below(2000 * period);
-            assert_eq!(
-                group_ticks_below(end, n, period, on),
-                group_ticks_by_period(end, n, period, on)
-            );
+        let mut driver = blinking_driver(&mut random, &PCA9634);
+        driver.in_effect[PCA9634.grppwm as usize] = 128;
+        driver.in_effect[PCA9634.grpfreq as usize] = 255;
+        assert_eq!(driver.group_pulse(), (268_435_456, 134_217_728));
+        assert_eq!(268_435_456 * 40 / 1_000_000, 10_737);
+    }
+
+    /// "any whole period holds exactly 16MN(G+1) lit ticks"
+    #[test]
+    fn whole_blink_periods() {
+        let mut random = Random::new(7);
+        for round in 0..4000 {
+            let layout = [&PCA9635, &PCA9634][round % 2];
+            let mut driver = blinking_driver(&mut random, layout);
+            let m = driver.in_effect[layout.grppwm as usize] as u64;
+            let g = driver.in_effect[layout.grpfreq as usize] as u64;
+            let n = driver.brightness(0);
+            let (period, _) = driver.group_pulse();
+            driver.ticks = random_count(&mut random, period).min(MAX_COUNT - period);
+            let lit = Chip::Driver(driver).lit_ticks(0, period);
+            assert_eq!(lit, 16 * m * n * (g + 1));
         }
     }
 
