@@ -283,15 +283,16 @@ fn group_dimming() {
     }
 }
 
-/// 000, section 7.3.5, equation 3, at half of the time on: the first half of the period, the
-/// second half, the next first half, which starts elsewhere in the 256 ticks of the brightness.
+/// 000, section 7.3.5, from 41 ms to 10.73 s, at half of the time on: the first half of the
+/// period, the second half, the next first half. A period is G + 1 times 1,048,576 ticks, which
+/// are 41.94 ms (RULES, Lamps).
 #[test]
 fn group_blinking() {
-    // G, half a period, lit ticks: 41 ms, 1 s and 10.67 s
+    // G, half a period, lit ticks: 41.94 ms, 1.007 s and 10.737 s
     let rows = [
-        (0x00, 520_833, [260_480, 0, 260_478]),
-        (0x17, 12_500_000, [6_250_016, 0, 6_250_016]),
-        (0xff, 133_333_333, [66_666_709, 0, 66_666_624]),
+        (0x00, 524_288, [262_144, 0, 262_144]),
+        (0x17, 12_582_912, [6_291_456, 0, 6_291_456]),
+        (0xff, 134_217_728, [67_108_864, 0, 67_108_864]),
     ];
     for board in BOARDS {
         for (g, half, expected) in rows {
@@ -300,6 +301,33 @@ fn group_blinking() {
             let log = board.with_lamp(BLINK, &lamp);
             let got = [0, half, 2 * half].map(|from| board.lit(&log, from, half));
             assert_eq!(got, expected, "{} {lamp:?}", board.chip);
+        }
+    }
+}
+
+/// RULES, Blink periods: 16MN(G+1) of a whole period, from any tick.
+#[test]
+fn whole_blink_period() {
+    // G, M, N, a period, lit ticks
+    let rows = [
+        (0, 0, 255, 1_048_576, 0),
+        (0, 255, 0, 1_048_576, 0),
+        (0, 1, 1, 1_048_576, 16),
+        (0, 255, 255, 1_048_576, 1_040_400),
+        (9, 77, 200, 10_485_760, 2_464_000),
+        (255, 1, 3, 268_435_456, 12_288),
+        (255, 255, 255, 268_435_456, 266_342_400),
+    ];
+    for board in BOARDS {
+        for (g, m, n, period, lit) in rows {
+            let mode = 0b11;
+            let lamp = Lamp { mode, n, m, g };
+            let log = board.with_lamp(BLINK, &lamp);
+            let last = (1 << 48) - period;
+            for from in [0, 1, 255, 256, 4_096, 1_000_003, period - 1, period, last] {
+                let got = board.lit(&log, from, period);
+                assert_eq!(got, lit, "{} {lamp:?}, from {from}", board.chip);
+            }
         }
     }
 }
