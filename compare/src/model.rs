@@ -1079,16 +1079,20 @@ mod tests {
         }
     }
 
-    /// "256 steps are 10.737 s", a tick being 40 ns; "M(G+1) times 4,096"
-    /// ticks of them are half at M = 128.
+    /// "256 steps are 10.737 s", a tick being 40 ns; with M = 128 half of them
+    /// are lit.
     #[test]
     fn the_slowest_blink() {
         let mut random = Random::new(4);
         let mut driver = blinking_driver(&mut random, &PCA9634);
         driver.in_effect[PCA9634.grppwm as usize] = 128;
         driver.in_effect[PCA9634.grpfreq as usize] = 255;
-        assert_eq!(driver.group_pulse(), (268_435_456, 134_217_728));
-        assert_eq!(268_435_456 * 40 / 1_000_000, 10_737);
+        let (period, on) = driver.group_pulse();
+        let milliseconds = period * 40 / 1_000_000;
+        assert_eq!(
+            (period, milliseconds, on),
+            (268_435_456, 10_737, period / 2)
+        );
     }
 
     /// "any whole period holds exactly 16MN(G+1) lit ticks"
