@@ -3,6 +3,7 @@
 use mathlib.Core.Path.{_≡_, refl, ap, _∙_}
 use mathlib.Core.Bool.{Bool, true}
 use Prim.Native.Nat.{ℕ, _+_, _-_, _*_, _≤_, _<_}
+use native.Mathlib.Omega.{arith}
 use lib.Dec.{ltb}
 use Rattle.basics.specs.laws.Logic.{neither}
 use Rattle.lamp.specs.Window.{litTicks, countLimit, countedTicks}
@@ -110,5 +111,8 @@ dimmed-reached M N hM hN =
 -- from whatever tick it starts, not only from a multiple of the period
 pub blink-period-lit : (G M N : ℕ) → M < 256 → N < 256 → (b : Bus) (dev out : ℕ) → Blinking (deviceAt b dev) out G M N → litReply b dev out ((G + 1) * 1048576) .code ≡ 0 → litReply b dev out ((G + 1) * 1048576) .value ≡ 16 * M * N * (G + 1)
 blink-period-lit G M N hM hN b dev out o c =
-    counted (Mode.Blinking N M G) 3 N b dev out ((G + 1) * 1048576) (o .output) (blinking-mode (deviceAt b dev) out G M N o) c
-    ∙ blink-period-count G M N hM hN (deviceAt b dev .count)
+    omega (
+      arith,
+      counted (Mode.Blinking N M G) 3 N b dev out ((G + 1) * 1048576) (o .output) (blinking-mode (deviceAt b dev) out G M N o) c,
+      blink-period-count G M N hM hN (deviceAt b dev .count),
+    )
