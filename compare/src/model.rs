@@ -1,7 +1,7 @@
 //! The twin as plain structs changed in place: one bus, up to eight devices.
 //!
-//! Sentences in quotation marks are those of the owner's rules paper and
-//! change requests, which docs/RULES.md condenses.
+//! Sentences in quotation marks are those of the owner's rules paper, which
+//! docs/RULES.md condenses, and of the owner's change requests.
 
 /// Most devices on a bus.
 pub const MAX_DEVICES: usize = 8;
@@ -572,6 +572,8 @@ const OUTNE: u8 = 0x03;
 
 /// Ticks of one period of group dimming.
 const DIMMING_PERIOD: u64 = 131_072;
+/// Ticks of one step of group blinking; a period has G+1 steps.
+const BLINK_STEP: u64 = 1_048_576;
 
 #[derive(Clone, Debug)]
 pub struct Driver {
@@ -748,14 +750,14 @@ impl Driver {
         self.mode2() & DMBLNK != 0
     }
 
-    /// Period and lit ticks per period of the group test. Blinking: "the
+    /// Period and lit ticks per period of the group test. With DMBLNK 1 "the
     /// period is (G+1) times 1,048,576 ticks, lit for the first M(G+1) times
     /// 4,096".
     pub fn group_pulse(&self) -> (u64, u64) {
         let m = self.in_effect[self.layout.grppwm as usize] as u64;
         let g = self.in_effect[self.layout.grpfreq as usize] as u64;
         if self.blinking() {
-            ((g + 1) * 1_048_576, m * (g + 1) * 4_096)
+            (BLINK_STEP * (g + 1), 4096 * m * (g + 1))
         } else {
             (DIMMING_PERIOD, 512 * m)
         }
@@ -805,11 +807,12 @@ impl Driver {
     }
 }
 
-/// Ticks x among 0 .. end-1 with x mod 256 < n and x mod period < on. Every
-/// period is a multiple of 256 ticks, so that both tests begin anew with it.
+/// Ticks x among 0 .. end-1 with x mod 256 < n and x mod period < on.
+/// The period is a multiple of 256, of dimming as of blinking, so every
+/// period has its lit ticks where the first one has them.
 fn group_ticks_below(end: u64, n: u64, period: u64, on: u64) -> u64 {
-    let within_period = |ticks: u64| pulse_ticks_below(ticks.min(on), 256, n);
-    end / period * within_period(period) + within_period(end % period)
+    let lit_in_first = |ticks: u64| pulse_ticks_below(ticks.min(on), 256, n);
+    end / period * lit_in_first(period) + lit_in_first(end % period)
 }
 
 #[derive(Clone, Copy, Debug, PartialEq, Eq)]
@@ -963,6 +966,8 @@ mod tests {
     use super::*;
     use crate::generate::Random;
 
+    const DRIVERS: [&Layout; 2] = [&PCA9635, &PCA9634];
+
     /// A register value, often at an edge.
     fn edge_byte(random: &mut Random) -> u8 {
         match random.below(4) {
@@ -984,6 +989,40 @@ mod tests {
         driver
     }
 
+    /// With DMBLNK 1 and all outputs in mode 11.
+    fn random_blinking_driver(random: &mut Random, layout: &'static Layout) -> Driver {
+        let mut driver = random_driver(random, layout);
+        driver.written[MODE2 as usize] |= DMBLNK;
+        driver.in_effect[layout.ledout as usize..layout.subadr1 as usize].fill(0xFF);
+        driver
+    }
+
+    /// N of an output, M and G.
+    fn brightness_and_group(driver: &Driver, output: u64) -> (u64, u64, u64) {
+        let in_effect = |register: u8| driver.in_effect[register as usize] as u64;
+        let layout = driver.layout;
+        (
+            in_effect(PWM0 + output as u8),
+            in_effect(layout.grppwm),
+            in_effect(layout.grpfreq),
+        )
+    }
+
+    /// Code and value of `lit` for a driver alone on a bus, standing at t.
+    fn answer_to_lit(driver: &Driver, t: u64, output: u64, w: u64) -> (u64, u64) {
+        let mut bus = Bus::new();
+        bus.devices.push(Device {
+            phase: Phase::Deaf,
+            chip: Chip::Driver(driver.clone()),
+        });
+        set_count(&mut bus.devices[0].chip, t);
+        bus.apply(Event::Lit {
+            device: 0,
+            output,
+            ticks: w,
+        })
+    }
+
     fn random_blinker(random: &mut Random, kind: BlinkerKind) -> Blinker {
         let mut blinker = Blinker::fresh(kind, 5).unwrap();
         for register in &mut blinker.registers {
@@ -1002,6 +1041,15 @@ mod tests {
         }
     }
 
+    /// A count within 300 ticks of where the group test of a blinking driver
+    /// begins or ceases to hold.
+    fn count_near_blink_edge(random: &mut Random, driver: &Driver) -> u64 {
+        let (period, on) = driver.group_pulse();
+        let start = random.below(MAX_COUNT / period) * period;
+        let edge = start + random.pick(&[0, on]);
+        (edge + random.below(601)).saturating_sub(300)
+    }
+
     fn period_of(chip: &Chip, output: usize) -> u64 {
         match chip {
             Chip::Driver(driver) if driver.mode(output) == 0b11 => driver.group_pulse().0,
@@ -1017,15 +1065,19 @@ mod tests {
         }
     }
 
+    fn assert_both_ways_agree(chip: &Chip, output: usize, w: u64) {
+        let by_loop = chip.lit_ticks_by_loop(output, w);
+        let by_periods = chip.lit_ticks_by_periods(output, w);
+        assert_eq!(by_loop, by_periods, "output {output} w {w} {chip:?}");
+    }
+
     /// Compares both ways on windows of up to `longest` ticks at any count.
     fn compare_both_ways(chip: &mut Chip, random: &mut Random, longest: u64) {
         for output in 0..chip.outputs() as usize {
             let w = random.below(longest + 1);
             let t = random_count(random, period_of(chip, output)).min(MAX_COUNT - w);
             set_count(chip, t);
-            let by_loop = chip.lit_ticks_by_loop(output, w);
-            let by_periods = chip.lit_ticks_by_periods(output, w);
-            assert_eq!(by_loop, by_periods, "output {output} t {t} w {w} {chip:?}");
+            assert_both_ways_agree(chip, output, w);
         }
     }
 
@@ -1056,59 +1108,93 @@ mod tests {
         }
     }
 
-    /// An awake driver with output 0 in mode 11 and DMBLNK 1.
-    fn blinking_driver(random: &mut Random, layout: &'static Layout) -> Driver {
-        let mut driver = random_driver(random, layout);
-        driver.in_effect[layout.ledout as usize] = 0xFF;
-        driver.written[MODE2 as usize] = DMBLNK;
-        driver
-    }
-
-    /// Windows of several blink periods, with G = 0.
+    /// Windows of two to five blink periods, for the two shortest periods.
     #[test]
     fn both_ways_agree_over_blink_periods() {
         let mut random = Random::new(3);
-        for layout in [&PCA9635, &PCA9634] {
-            let mut driver = blinking_driver(&mut random, layout);
-            driver.in_effect[layout.grpfreq as usize] = 0;
-            driver.ticks = random.below(1 << 40);
-            let chip = Chip::Driver(driver);
-            let w = 5_000_000 + random.below(1000);
-            let by_loop = chip.lit_ticks_by_loop(0, w);
-            assert_eq!(by_loop, chip.lit_ticks_by_periods(0, w));
+        for round in 0..12 {
+            let layout = DRIVERS[round % 2];
+            let mut driver = random_blinking_driver(&mut random, layout);
+            driver.in_effect[layout.grpfreq as usize] = random.below(2) as u8;
+            let w = driver.group_pulse().0 * (2 + random.below(3)) + random.below(BLINK_STEP);
+            driver.ticks = count_near_blink_edge(&mut random, &driver).min(MAX_COUNT - w);
+            let output = random.below(layout.outputs as u64) as usize;
+            assert_both_ways_agree(&Chip::Driver(driver), output, w);
         }
     }
 
-    /// "256 steps are 10.737 s", a tick being 40 ns; with M = 128 half of them
-    /// are lit.
+    /// Short windows at either edge of a blink, for any period.
     #[test]
-    fn the_slowest_blink() {
+    fn both_ways_agree_near_blink_edges() {
         let mut random = Random::new(4);
-        let mut driver = blinking_driver(&mut random, &PCA9634);
-        driver.in_effect[PCA9634.grppwm as usize] = 128;
-        driver.in_effect[PCA9634.grpfreq as usize] = 255;
-        let (period, on) = driver.group_pulse();
-        let milliseconds = period * 40 / 1_000_000;
-        assert_eq!(
-            (period, milliseconds, on),
-            (268_435_456, 10_737, period / 2)
-        );
+        for round in 0..4000 {
+            let layout = DRIVERS[round % 2];
+            let mut driver = random_blinking_driver(&mut random, layout);
+            let w = random.below(1000);
+            driver.ticks = count_near_blink_edge(&mut random, &driver).min(MAX_COUNT - w);
+            let output = random.below(layout.outputs as u64) as usize;
+            assert_both_ways_agree(&Chip::Driver(driver), output, w);
+        }
     }
 
-    /// "any whole period holds exactly 16MN(G+1) lit ticks"
+    /// "Any whole period holds exactly 16MN(G+1) lit ticks", from the earliest
+    /// to the latest start.
     #[test]
     fn whole_blink_periods() {
         let mut random = Random::new(7);
         for round in 0..4000 {
-            let layout = [&PCA9635, &PCA9634][round % 2];
-            let mut driver = blinking_driver(&mut random, layout);
-            let m = driver.in_effect[layout.grppwm as usize] as u64;
-            let g = driver.in_effect[layout.grpfreq as usize] as u64;
-            let n = driver.brightness(0);
-            let (period, _) = driver.group_pulse();
-            driver.ticks = random_count(&mut random, period).min(MAX_COUNT - period);
-            let lit = Chip::Driver(driver).lit_ticks(0, period);
-            assert_eq!(lit, 16 * m * n * (g + 1));
+            let layout = DRIVERS[round % 2];
+            let driver = random_blinking_driver(&mut random, layout);
+            let output = random.below(layout.outputs as u64);
+            let (n, m, g) = brightness_and_group(&driver, output);
+            let period = 1_048_576 * (g + 1);
+            let latest = MAX_COUNT - period;
+            let at_edge = count_near_blink_edge(&mut random, &driver).min(latest);
+            let anywhere = random.below(latest + 1);
+            let t = *random.pick(&[0, latest, at_edge, anywhere]);
+            let answer = answer_to_lit(&driver, t, output, period);
+            assert_eq!(answer, (0, 16 * m * n * (g + 1)), "t {t} {driver:?}");
+        }
+    }
+
+    /// "Lit for the first M(G+1) times 4,096": they hold all lit ticks of a
+    /// period, and the rest has none.
+    #[test]
+    fn blink_periods_begin_lit() {
+        let mut random = Random::new(8);
+        for round in 0..4000 {
+            let layout = DRIVERS[round % 2];
+            let driver = random_blinking_driver(&mut random, layout);
+            let output = random.below(layout.outputs as u64);
+            let (n, m, g) = brightness_and_group(&driver, output);
+            let period = 1_048_576 * (g + 1);
+            let on = m * (g + 1) * 4096;
+            let t = random.below(MAX_COUNT / period) * period;
+            let first = answer_to_lit(&driver, t, output, on);
+            let rest = answer_to_lit(&driver, t + on, output, period - on);
+            assert_eq!(first, (0, 16 * m * n * (g + 1)), "t {t} {driver:?}");
+            assert_eq!(rest, (0, 0), "t {t} {driver:?}");
+        }
+    }
+
+    /// "256 steps are 10.737 s": G 255, and M 128 for half of it.
+    #[test]
+    fn the_slowest_blink() {
+        let mut random = Random::new(9);
+        for layout in DRIVERS {
+            let mut driver = random_blinking_driver(&mut random, layout);
+            driver.in_effect[PWM0 as usize] = 1;
+            driver.in_effect[layout.grppwm as usize] = 128;
+            driver.in_effect[layout.grpfreq as usize] = 255;
+            let (period, on) = driver.group_pulse();
+            let nanoseconds = 40 * period;
+            assert_eq!(nanoseconds / 1_000_000, 10_737);
+            assert_eq!(period, 268_435_456);
+            assert_eq!(on, period / 2);
+            let lit_at = |t| driver.is_lit(0, t);
+            assert!(lit_at(0) && lit_at(on - 256));
+            assert!(!lit_at(on) && !lit_at(period - 256));
+            assert!(lit_at(period));
         }
     }
 
