@@ -2,6 +2,7 @@
 
 pub mod check;
 pub mod generate;
+pub mod lit;
 pub mod model;
 pub mod text;
 pub mod timing;

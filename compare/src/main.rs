@@ -1,15 +1,18 @@
 //! `compare model` answers a log, `compare generate` writes one, `compare
-//! check` compares the twin with the model, and `compare time` times both.
+//! check` compares the twin with the model, `compare time` times both, and
+//! `compare lit` times their lit counts.
 
-use compare::{check, generate, text, timing};
+use compare::{check, generate, lit, text, timing};
 use std::env;
 use std::io::{self, Read, Write};
 use std::process::ExitCode;
+use std::time::Duration;
 
 const USAGE: &str = "usage: compare model
        compare generate SEED LINES DAMAGE_PERCENT
        compare check PROGRAM FIRST_SEED SEEDS LINES
-       compare time LINES RUNS";
+       compare time LINES RUNS
+       compare lit PROGRAM RUNS";
 
 fn main() -> ExitCode {
     let arguments: Vec<String> = env::args().skip(1).collect();
@@ -28,6 +31,10 @@ fn main() -> ExitCode {
         }
         ["time", lines, runs] => match (lines.parse(), runs.parse()) {
             (Ok(lines), Ok(runs)) if runs > 0 => time_both(lines, runs),
+            _ => return usage(),
+        },
+        ["lit", program, runs] => match runs.parse() {
+            Ok(runs) if runs > 0 => time_counts(program, runs),
             _ => return usage(),
         },
         _ => return usage(),
@@ -105,4 +112,43 @@ fn time_both(lines: usize, runs: usize) -> io::Result<ExitCode> {
         );
     }
     Ok(ExitCode::SUCCESS)
+}
+
+fn time_counts(program: &str, runs: usize) -> io::Result<ExitCode> {
+    for window in lit::WINDOWS {
+        println!(
+            "{} lit counts of {window} ticks or steps each:",
+            lit::COUNTS
+        );
+        println!("the time of all, the time of one, and over the model's");
+        let mut total = [Duration::ZERO; 3];
+        for (chip, mode) in lit::settings() {
+            let times = lit::time(program, &lit::log(chip, mode, window), runs)?;
+            print_counts(chip, mode, &times);
+            let whole = [&times.model, &times.library, &times.program].map(|time| time.whole);
+            for (sum, time) in total.iter_mut().zip(whole) {
+                *sum += time;
+            }
+        }
+        let [model, library, program] = total.map(|time| time.as_secs_f64() * 1e3);
+        println!("all logs, whole: model {model:.1} ms, library {library:.1} ms, program {program:.1} ms");
+    }
+    Ok(ExitCode::SUCCESS)
+}
+
+fn print_counts(chip: u64, mode: lit::Mode, times: &lit::Times) {
+    let columns = |time: &lit::Time| {
+        let milliseconds = time.counts().as_secs_f64() * 1e3;
+        let nanoseconds = time.nanoseconds_a_count();
+        format!("{milliseconds:.3} ms {nanoseconds:4.0} ns")
+    };
+    println!(
+        "{chip} {:<13} model {}  library {} {:.2}  program {} {:.2}",
+        mode.to_string(),
+        columns(&times.model),
+        columns(&times.library),
+        times.library.ratio(&times.model),
+        columns(&times.program),
+        times.program.ratio(&times.model),
+    );
 }

@@ -32,8 +32,8 @@ pub fn time(log: &[u8], runs: usize) -> Times {
     let mut model = Vec::new();
     let mut library = Vec::new();
     for _ in 0..runs {
-        model.push(duration(|| text::run(black_box(log))));
-        library.push(duration(|| lamptwin::run(black_box(log))));
+        model.push(elapsed(|| text::run(black_box(log))));
+        library.push(elapsed(|| lamptwin::run(black_box(log))));
     }
     Times {
         lines: text::lines(log).count(),
@@ -42,14 +42,15 @@ pub fn time(log: &[u8], runs: usize) -> Times {
     }
 }
 
-fn duration(run: impl Fn() -> Vec<u8>) -> Duration {
+/// How long one run takes.
+pub fn elapsed<T>(run: impl Fn() -> T) -> Duration {
     let start = Instant::now();
     black_box(run());
     start.elapsed()
 }
 
 /// The middle one, or the larger of the two in the middle.
-fn median(mut times: Vec<Duration>) -> Duration {
+pub fn median(mut times: Vec<Duration>) -> Duration {
     times.sort();
     times[times.len() / 2]
 }
