@@ -32,6 +32,18 @@ pub struct Reply {
     pub bus: Bus,
 }
 
+// What a question is answered with: the number of a refusal, or 0, and the value. The bus stays as it was.
+pub struct Answer {
+    pub code: u64,
+    pub value: u64,
+}
+
+// The answer to a request that asks; any other request.
+pub enum Asked {
+    Answered(Answer),
+    Other,
+}
+
 // What goes over the bus for all devices alike, with numbers that may be too large.
 pub enum SignalEvent {
     Start,

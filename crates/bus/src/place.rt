@@ -1,4 +1,5 @@
 // Events and questions for the device at one position.
+use crate::Answer;
 use crate::Bus;
 use crate::Change;
 use crate::Question;
@@ -7,6 +8,8 @@ use device::Device;
 use refusals::least;
 use refusals::or_refused;
 ghost use mathlib.Core.Path.{_≡_};
+ghost use mathlib.Core.Bool.{cond};
+ghost use lib.Dec.{eqb};
 ghost use Rattle.refusals.specs.Refusals.{codeOf};
 ghost use Rattle.bus.specs.declared.Event.the-variants as E;
 ghost use Rattle.bus.specs.Devices.{busOk};
@@ -105,16 +108,50 @@ fn value_of(d: Device, question: Question) -> u64
     }
 }
 
+// What the device that is asked answers.
+fn answer_of(d: Device, question: Question) -> Answer
+    ensures { λ r. ⌜ r .code ≡ codeOf (questionRefusals d question) ⌝ }
+    ensures { λ r. ⌜ r .value ≡ cond (eqb (r .code) 0) (valueOf d question) 0 ⌝ }
+{
+    let code = question_code(d, question);
+    if code == 0 {
+        Answer {
+            code: code,
+            value: value_of(d, question),
+        }
+    } else {
+        Answer {
+            code: code,
+            value: 0,
+        }
+    }
+}
+
+// The answer to a question, where the bus stays as it was.
+pub fn answer(ok: bool, bus: Bus, dev: u64, question: Question) -> Answer
+    requires { ⌜ ok ≡ busOk bus ⌝ }
+    ensures { λ r. ⌜ record { code = r .code; value = r .value; bus = bus } ≡ stepReply bus (E.Ask dev question) ⌝ }
+{
+    let code = place_code(ok, bus, dev);
+    if code == 0 {
+        answer_of(crate::devices::device_at(bus, dev), question)
+    } else {
+        Answer {
+            code: code,
+            value: 0,
+        }
+    }
+}
+
 pub fn ask(ok: bool, bus: Bus, dev: u64, question: Question) -> Reply
     requires { ⌜ ok ≡ busOk bus ⌝ }
     ensures { λ r. ⌜ r ≡ stepReply bus (E.Ask dev question) ⌝ }
 {
-    let d = crate::devices::device_at(bus, dev);
-    let code = least(place_code(ok, bus, dev), question_code(d, question));
-    if code == 0 {
-        crate::done(value_of(d, question), bus)
-    } else {
-        crate::refused(bus, code)
+    let a = answer(ok, bus, dev, question);
+    Reply {
+        code: a.code,
+        value: a.value,
+        bus: bus,
     }
 }
 

@@ -1,10 +1,12 @@
 // For proved callers alone: what asks something of its caller. ok says whether the bus is well formed: a loop that carries it need not judge the bus at every event.
+use crate::Asked;
 use crate::Bus;
 use crate::Event;
 use crate::Reply;
 use crate::Request;
 ghost use mathlib.Core.Path.{_≡_};
 ghost use Rattle.bus.specs.Devices.{busOk};
+ghost use Rattle.bus.specs.Asked.{Answers};
 ghost use Rattle.bus.specs.Events.{stepReply, requestReply};
 
 pub fn step_judged(ok: bool, bus: Bus, event: Event) -> Reply
@@ -27,4 +29,18 @@ pub fn request_judged(ok: bool, bus: Bus, request: Request) -> Reply
         Request::Known(event) => step_judged(ok, bus, event),
         Request::Unknown => crate::refused(bus, 4),
     }
+}
+
+// The answer to a request that asks. It comes without the bus, which stays as it was: one that is handed back is copied.
+pub fn question_judged(ok: bool, bus: Bus, request: Request) -> Asked
+    requires { ⌜ ok ≡ busOk bus ⌝ }
+    ensures { λ r. ⌜ Answers bus (requestReply bus request) r ⌝ }
+{
+    let Request::Known(event) = request else {
+        return Asked::Other;
+    };
+    let Event::Ask { dev, question } = event else {
+        return Asked::Other;
+    };
+    Asked::Answered(crate::place::answer(ok, bus, dev, question))
 }

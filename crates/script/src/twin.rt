@@ -5,8 +5,11 @@ ghost use Rattle.text.specs.Run.{Runs};
 ghost use Rattle.script.specs.Twin.{freshState, nextNumber, replyTo, twin};
 use crate::answer::write_answer;
 use crate::parser::parse;
+use bus::Asked;
 use bus::Bus;
 use bus::Reply;
+use bus::proved_callers::question_judged;
+use bus::proved_callers::request_judged;
 use text::line_end;
 
 // What is kept from line to line: how many lines are answered, and the bus after them.
@@ -44,7 +47,7 @@ pub fn reply_to(ok: bool, bus: Bus, line: &[u8]) -> Reply
     requires { ⌜ ok ≡ busOk bus ⌝ }
     ensures { λ r. ⌜ r ≡ replyTo bus (now (line .entry)) ⌝ }
 {
-    bus::proved_callers::request_judged(ok, bus, parse(line))
+    request_judged(ok, bus, parse(line))
 }
 
 fn ran_to(read: usize, wrote: usize, lines: u64, bus: Bus) -> Ran
@@ -73,11 +76,17 @@ pub fn run(first: State, input: &[u8], out: &mut [u8]) -> Ran
         if input.len() <= end {
             return ran_to(from, at, lines, bus);
         }
-        let r = reply_to(ok, bus, &input[from..end]);
+        let request = parse(&input[from..end]);
         let n = next_number(lines);
-        at = write_answer(n, r.code, r.value, out, at);
+        let asked = question_judged(ok, bus, request);
+        if let Asked::Answered(a) = asked {
+            at = write_answer(n, a.code, a.value, out, at);
+        } else {
+            let r = request_judged(ok, bus, request);
+            at = write_answer(n, r.code, r.value, out, at);
+            bus = r.bus;
+        }
         lines = n;
-        bus = r.bus;
         from = end + 1;
     }
     ran_to(from, at, lines, bus)

@@ -1,16 +1,17 @@
 -- A change or a question at a position: its code is that of the position and of the device there, and what one that is not refused comes with is a byte.
 use mathlib.Core.Path.{_≡_, refl, ap, _∙_}
-use mathlib.Core.Bool.{false}
+use mathlib.Core.Bool.{true, false}
 use mathlib.Core.List.{List, _++_}
-use Prim.Native.Nat.{ℕ, _<_}
+use Prim.Native.Nat.{ℕ, _≤_, _<_}
 use native.Mathlib.Omega.{arith}
 use borrow.Author.Tests.{leb-false, ltb-false}
+use Rattle.basics.specs.laws.Logic.{holds, fails, tested}
 use Rattle.chip.specs.Kinds.{outputsOf}
 use Rattle.chip.specs.laws.Registers.{outputs-few}
 use Rattle.device.specs.declared.Device.{Device}
 use Rattle.refusals.specs.Refusals.{Refusal, least, codeOf}
-use Rattle.refusals.specs.laws.Refusals.{refused-both, accepted}
-use Rattle.bus.specs.Devices.{deviceAt}
+use Rattle.refusals.specs.laws.Refusals.{refused-both, above, code-first, accepted}
+use Rattle.bus.specs.Devices.{busOk, hasDevice, deviceAt}
 use Rattle.bus.specs.Place.{placeRefusals, changeRefusals, isMissing, questionRefusals}
 use Rattle.bus.specs.declared.Bus.{Bus}
 use Rattle.bus.specs.declared.Change.{Change}
@@ -21,6 +22,23 @@ use Rattle.bus.specs.declared.Question.the-variants.{Lit, Pin}
 -- the code of a position, and that of the device which stands there
 pub placed-code : (b : Bus) (dev : ℕ) (own : Device → List Refusal) (d : Device) (j k r : ℕ) → d ≡ deviceAt b dev → j ≡ codeOf (placeRefusals b dev) → k ≡ codeOf (own d) → r ≡ least j k → r ≡ codeOf (placeRefusals b dev ++ own (deviceAt b dev))
 placed-code b dev own d j k r e p q = refused-both (placeRefusals b dev) (own (deviceAt b dev)) j k r p (q ∙ ap (λ (x : Device). codeOf (own x)) e)
+
+-- a position's own numbers come first, whatever the device is asked
+position-few : (b : Bus) (dev : ℕ) → codeOf (placeRefusals b dev) ≤ 4
+unfolding codeOf least
+position-few b dev =
+    elim (tested (hasDevice b dev)) [
+      | holds e ↦ rw e (elim (tested (busOk b)) [ holds o ↦ rw o (omega arith) | fails o ↦ rw o (omega arith) ])
+      | fails e ↦ rw e (elim (tested (busOk b)) [ holds o ↦ rw o (omega arith) | fails o ↦ rw o (omega arith) ])
+    ]
+
+questions-above : (d : Device) (q : Question) → above 4 (questionRefusals d q) ≡ true
+unfolding questionRefusals
+questions-above d (Lit out ticks) = refl
+questions-above d (Pin out) = refl
+
+pub position-first : (b : Bus) (dev : ℕ) (d : Device) (q : Question) → (codeOf (placeRefusals b dev) ≡ 0 → ⊥) → codeOf (placeRefusals b dev ++ questionRefusals d q) ≡ codeOf (placeRefusals b dev)
+position-first b dev d q p = code-first (placeRefusals b dev) (questionRefusals d q) 4 p (position-few b dev) (questions-above d q)
 
 module _ (d : Device) where
   pub ext-byte : (c : Change) (level : ℕ) → c ≡ Ext level → codeOf (changeRefusals d c) ≡ 0 → level < 256

@@ -1,6 +1,6 @@
 -- How a call's reply comes about: by the code of its refusals, it is done or refused.
 use mathlib.Core.Path.{_≡_, refl, sym, ap, _∙_}
-use mathlib.Core.Bool.{true, false, not, _&&_, true≢false}
+use mathlib.Core.Bool.{true, false, not, _&&_, cond, true≢false}
 use mathlib.Core.List.{List}
 use Prim.Native.Nat.{ℕ, _≤_, _<_}
 use native.Mathlib.Omega.{arith}
@@ -16,7 +16,7 @@ use Rattle.refusals.specs.Refusals.{Refusal, codeOf}
 use Rattle.refusals.specs.laws.Refusals.{positive, NoneHolds, accepted, Exact, exact}
 use Rattle.basics.specs.First.{allFirst}
 use Rattle.bus.specs.Devices.{busOk}
-use Rattle.bus.specs.Replies.{refusedWith, answer}
+use Rattle.bus.specs.Replies.{refusedWith, doneWith, answer}
 use Rattle.bus.specs.Add.{isUnknown, isBarred}
 use Rattle.bus.specs.declared.Bus.{Bus}
 use Rattle.bus.specs.declared.Reply.{Reply}
@@ -30,6 +30,14 @@ answered l b d r k e z q = rw (eq-eqb (codeOf l) 0 (sym e ∙ z)) q
 pub turned-away : (l : List Refusal) (b : Bus) (d r : Reply) (k : ℕ) → k ≡ codeOf l → (k ≡ 0 → ⊥) → r ≡ refusedWith b k → r ≡ answer l b d
 unfolding answer
 turned-away l b d r k e z q = rw (ne-eqb (codeOf l) 0 (λ c. z (e ∙ c))) (q ∙ ap (refusedWith b) e)
+
+-- a call that leaves the bus as it was, by its code and its value
+pub answer-is : (l : List Refusal) (b : Bus) (w k v : ℕ) → k ≡ codeOf l → v ≡ cond (eqb k 0) w 0 → record { code = k; value = v; bus = b } ≡ answer l b (doneWith w b)
+answer-is l b w k v e q =
+    elim (tested (eqb k 0)) [
+      | holds t ↦ let z = eqb-true k 0 t in answered l b (doneWith w b) _ k e z (rw (q, t, z) refl)
+      | fails t ↦ turned-away l b (doneWith w b) _ k e (eqb-false k 0 t) (rw (q, t) refl)
+    ]
 
 -- ---- what a reply says; that of a done call has the code 0
 

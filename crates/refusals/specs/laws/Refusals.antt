@@ -5,8 +5,8 @@ use mathlib.Core.Bool.{Bool, true, false, not, _&&_, and-false, or-true, false�
 use mathlib.Core.List.{List, [], _∷_, _++_}
 use Prim.Native.Nat.{ℕ, zero, suc, min, _≤_, _<_}
 use native.Mathlib.Omega.{arith}
-use lib.Dec.{eqb}
-use borrow.Author.Tests.{eqb-true, eqb-false, eq-eqb, not-true}
+use lib.Dec.{ltb, eqb}
+use borrow.Author.Tests.{ltb-true, eqb-true, eqb-false, eq-eqb, not-true}
 use Rattle.basics.specs.laws.Logic.{holds, fails, tested, lt-or-ge, and-left, and-right, or-cases}
 use Rattle.refusals.specs.Refusals.{Refusal, refuse, least, numberOf, codeOf, holdsAt}
 
@@ -76,6 +76,32 @@ refused-more l number b code k on p q e =
 pub refused-first : (number : ℕ) (b : Bool) (k : ℕ) (on : Bool) → on ≡ b → k ≡ least 0 (numberOf (refuse number on)) → k ≡ codeOf (refuse number b ∷ [])
 unfolding codeOf
 refused-first number b k on q e = refused-more [] number b 0 k on refl q e
+
+-- whether all numbers of a list are above n
+abbrev pub above : ℕ → List Refusal → Bool
+above n [] = true
+above n (r ∷ l) = ltb n (r .number) && above n l
+
+-- the lesser of two numbers above n, of which the second may be none
+least-above : (n j k : ℕ) → n < j → (k ≡ 0) ⊎ (n < k) → n < least j k
+least-above n j k h (inl e) = rw (e, least-zero j) h
+least-above n j k h (inr g) = ⊎-elim (λ e. rw e h) (λ e. rw e g) (least-either j k)
+
+-- a list's code, where there is one, is among its numbers
+code-above : (n : ℕ) (l : List Refusal) → above n l ≡ true → (codeOf l ≡ 0) ⊎ (n < codeOf l)
+unfolding codeOf least
+code-above n [] h = inl refl
+code-above n (r ∷ l) h =
+    let rest = code-above n l (and-right (ltb n (r .number)) (above n l) h) in
+    elim (tested (r .holds)) [
+      | holds t ↦ inr (rw t (least-above n (r .number) (codeOf l) (ltb-true n (r .number) (and-left (ltb n (r .number)) (above n l) h)) rest))
+      | fails t ↦ rw t rest
+    ]
+
+-- the numbers of a list come before those of a second that are all larger
+pub code-first : (l m : List Refusal) (n : ℕ) → (codeOf l ≡ 0 → ⊥) → codeOf l ≤ n → above n m ≡ true → codeOf (l ++ m) ≡ codeOf l
+code-first l m n p h a =
+    code-both l m ∙ ⊎-elim (λ e. rw e (least-zero (codeOf l))) (λ g. least-min (codeOf l) (codeOf m) p (λ z. omega arith) ∙ omega arith) (code-above n m a)
 
 -- ---- a code of 0
 

@@ -1,15 +1,14 @@
 -- `run`: from line to line, the lines so far are answered at the start of the buffer, and the bus is as well formed as it was.
-use Rattle.text.specs.laws.Run.{Did, did-none, did-more, did-all}
-use Rattle.script.specs.Twin.{afterLine, answerTo, twin}
-use Rattle.script.specs.Promises.{reply-shape}
+use Rattle.text.specs.laws.Run.{Did, did-none, did-all}
+use Rattle.script.specs.Twin.{twin}
+use Rattle.script.specs.laws.Turn.{turn}
 use Rattle.bus.specs.Devices.{busOk}
 use denote.Ref.{now}
 use native.Mathlib.Omega.{arith}
 use borrow.Author.Needs.{needs}
 use lib.ListN.{length}
-use Rattle.bus.specs.declared.Reply.{Reply}
-use mathlib.Core.Logic.{inl, inr}
-use mathlib.Core.Path.{_≡_, sym, ap, _∙_}
+use mathlib.Core.Logic.{inl, inr, ⊎-elim}
+use mathlib.Core.Path.{_≡_, _∙_}
 use Prim.Native.Nat.{_+_, _-_}
 use Rattle.script.proofs.twin.run.Statement.{statement}
 use Rattle.script.proofs.twin.run.Tie as tie
@@ -35,18 +34,27 @@ returns-2 c =
     let e = c .before .before in
     rw (c .ran-to2 .ensures) (did-all twin (e .before .before .loop .inv .0) (inl (rw (e .line-end .ensures) at (c .before .if2 .taken))))
 
-reply-to-requires : tie.Need-reply-to-requires Inv-loop μ-loop
-reply-to-requires c κs = c .before .before .before .before .loop .inv .1
+question-judged-requires : tie.Need-question-judged-requires Inv-loop μ-loop
+question-judged-requires c κs = c .before .before .before .before .before .before .loop .inv .1
+
+request-judged-requires : tie.Need-request-judged-requires Inv-loop μ-loop
+request-judged-requires c κs = c .before .before .before .before .before .before .before .before .before .loop .inv .1
 
 loop-again : tie.Need-loop-again Inv-loop μ-loop
-unfolding afterLine answerTo
 loop-again c =
-    let p = c .before .before .before in
-    let n = p .before .before in
-    let r = n .before in
-    let e = r .before .before .before in
-    let l = e .before .before in
-    (did-more twin (e .line-end .result) (l .loop .inv .0) (e .line-end .ensures) (r .before .before .if2 .left) (rw (n .next-number .ensures, r .reply-to .ensures)) (rw (← r .reply-to .ensures, ← n .next-number .ensures) (p .write-answer .ensures)), l .loop .inv .1 ∙ sym (reply-shape _ _) ∙ sym (ap (λ (x : Reply). busOk (x .bus)) (r .reply-to .ensures)), search needs, search needs)
+    let n = c .before .before in
+    let p = n .before in
+    let e = p .before .before .before in
+    let i = e .before .before .loop .inv in
+    let more = turn (e .line-end .result) (n .next-number .result) (p .parse .result) (i .0) (e .line-end .ensures) (p .before .before .if2 .left) (n .next-number .ensures) (p .parse .ensures) in
+    ⊎-elim
+    (λ t.
+    let m = more _ _ _ (rw (t .1 .given .1) at (c .before .question-judged .ensures)) (t .4 .ensures) in
+    rw (t .7, t .8, t .9) (m .0, i .1 ∙ m .1, search needs, search needs))
+    (λ t.
+    let m = more _ _ _ (t .2 .ensures) (t .4 .ensures) in
+    rw (t .8, t .9, t .10) (m .0, i .1 ∙ m .1, search needs, search needs))
+    (c .match .came)
 
 returns-3 : tie.Need-returns-3 Inv-loop μ-loop
 returns-3 c = rw (c .ran-to3 .ensures) (did-all twin (c .before .before .loop .inv .0) (inr (omega arith)))
@@ -69,8 +77,13 @@ run-spec =
     (λ c. search needs)
     (λ c. search needs)
     (λ c. search needs)
-    reply-to-requires
     (λ c κs. search needs)
+    (λ c κs. search needs)
+    question-judged-requires
+    (λ c. search needs)
+    (λ c κs. search needs)
+    (λ c. search needs)
+    request-judged-requires
     (λ c κs. search needs)
     (λ c. search needs)
     (λ c. search needs)
