@@ -63,21 +63,14 @@ pub fn has_device(bus: Bus, dev: u64) -> bool
     }
 }
 
-fn element(devices: [Device; 8], dev: u64) -> Device
-    ensures { λ r. ⌜ r ≡ getD devices dev (fresh Pca9635 0) ⌝ }
-{
-    if dev < 8 {
-        devices[dev as usize]
-    } else {
-        device::fresh(Chip::Pca9635, 0)
-    }
-}
-
 pub fn device_at(bus: Bus, dev: u64) -> Device
     ensures { λ r. ⌜ r ≡ deviceAt bus dev ⌝ }
 {
-    let devices = bus.devices;
-    element(devices, dev)
+    if dev < 8 {
+        bus.devices[dev as usize]
+    } else {
+        device::fresh(Chip::Pca9635, 0)
+    }
 }
 
 fn with_element(devices: [Device; 8], dev: u64, d: Device) -> [Device; 8]

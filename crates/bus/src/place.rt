@@ -134,7 +134,7 @@ pub fn answer(ok: bool, bus: Bus, dev: u64, question: Question) -> Answer
 {
     let code = place_code(ok, bus, dev);
     if code == 0 {
-        answer_of(crate::devices::device_at(bus, dev), question)
+        answer_of(bus.devices[dev as usize], question)
     } else {
         Answer {
             code: code,

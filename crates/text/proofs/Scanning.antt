@@ -1,18 +1,18 @@
--- The loops over an input: to the next line feed, and counting its lines.
-use Prim.Native.Nat.{ℕ, _+_, _≤_, _<_}
-use mathlib.Core.Path.{_≡_, refl, _∙_}
-use mathlib.Core.Bool.{cond}
-use mathlib.Core.List.{List, [], _∷_}
+-- The loops over an input: to the next line feed, and counting them.
+use Prim.Native.Nat.{ℕ, _+_, _-_, _≤_, _<_}
+use mathlib.Core.Path.{_≡_, refl}
+use mathlib.Core.List.{List, [], _∷_, _++_}
 use mathlib.Core.Logic.{_⊎_, inl, inr}
 use native.Mathlib.Numerals.{add-one}
 use native.Mathlib.Nat.{add-suc}
 use native.Mathlib.Omega.{arith}
 use borrow.Author.Tests.{eq-eqb, ne-eqb}
-use lib.ListN.{length, drop, getD, drop-of-length-le}
-use lib.Seq.{drop-cons}
+use lib.ListN.{length, take, drop, getD, length-take, length-drop, take-append-drop, drop-of-length-le}
+use lib.Seq.{drop-cons, drop-drop}
 use lib.Dec.{eqb}
 use Rattle.basics.specs.laws.Logic.{holds, fails, tested}
-use Rattle.text.specs.Lines.{linesOf, endOf, onto}
+use Rattle.text.specs.Lines.{endOf}
+use Rattle.text.specs.laws.Lines.{feeds, unended}
 
 module _ (l : List ℕ) (i : ℕ) where
   pub end-here : i < length l → getD l i 0 ≡ 10 → i + endOf (drop i l) ≡ i
@@ -27,40 +27,62 @@ module _ (l : List ℕ) (i : ℕ) where
   unfolding endOf
   end-none h = rw (drop-of-length-le l h) (omega arith)
 
--- the lines in what is left of a log, where begun is 1 if a line has begun
-unfoldable pub countFrom : ℕ → List ℕ → ℕ
-countFrom begun [] = begun
-countFrom begun (b ∷ l) = cond (eqb b 10) (1 + countFrom 0 l) (countFrom 1 l)
-
-both : (x : ℕ) (l : List ℕ) → (countFrom 0 l ≡ length (linesOf l)) × (countFrom 1 l ≡ length (onto x (linesOf l)))
-unfolding countFrom linesOf
-both x [] = (refl, refl)
-both x (b ∷ l) =
-    let i = both b l in
+-- bytes without a line feed are passed over
+skip : (p s : List ℕ) → feeds p ≡ 0 → endOf (p ++ s) ≡ length p + endOf s
+unfolding feeds endOf
+skip [] s e = omega arith
+skip (b ∷ p) s e =
     elim (tested (eqb b 10)) [
-      | holds e ↦ (rw e (omega (arith, i .0)), rw e (omega (arith, i .0)))
-      | fails e ↦ (rw e (i .1), rw e (i .1 ∙ onto-length b (linesOf l)))
+      | holds t ↦ absurd (omega (arith, rw t at e))
+      | fails t ↦ rw t (omega (arith, skip p s (omega (arith, rw t at e))))
     ]
-  where
-    onto-length : (y : ℕ) (ls : List (List ℕ)) → length (onto y ls) ≡ length (onto x (onto y ls))
-    onto-length y [] = refl
-    onto-length y (k ∷ ls) = refl
 
-counted : (l : List ℕ) → countFrom 0 l ≡ length (linesOf l)
-counted l = both 0 l .0
+pub end-past : (l : List ℕ) (i n : ℕ) → i + n ≤ length l → feeds (take n (drop i l)) ≡ 0 → i + n + endOf (drop (i + n) l) ≡ i + endOf (drop i l)
+end-past l i n h e =
+    let k : length (take n (drop i l)) ≡ n = rw (length-take, length-drop) (omega arith) in
+    let q = skip (take n (drop i l)) (drop n (drop i l)) e in
+    omega (arith, k, rw (take-append-drop, drop-drop) at q)
 
--- one byte further: it ends a line, or a line has begun
-pub count-next : (l : List ℕ) (i ended begun ended′ begun′ : ℕ) → i < length l → ended + countFrom begun (drop i l) ≡ countFrom 0 l → ended + begun ≤ i
-    → ((getD l i 0 ≡ 10) × (ended′ ≡ ended + 1) × (begun′ ≡ 0)) ⊎ ((getD l i 0 ≡ 10 → ⊥) × (ended′ ≡ ended) × (begun′ ≡ 1))
-    → (ended′ + countFrom begun′ (drop (i + 1) l) ≡ countFrom 0 l) × (ended′ + begun′ ≤ i + 1) × (i + 1 ≤ length l)
-unfolding countFrom
-count-next l i ended begun ended′ begun′ h e k (inl t) =
-    let q : countFrom begun (drop i l) ≡ 1 + countFrom 0 (drop (i + 1) l) = rw (drop-cons l i 0 h, eq-eqb _ _ (t .0), add-one) in
-    (rw (t .1, t .2) (omega arith), omega (arith, t .1, t .2), omega arith)
-count-next l i ended begun ended′ begun′ h e k (inr t) =
-    let q : countFrom begun (drop i l) ≡ countFrom 1 (drop (i + 1) l) = rw (drop-cons l i 0 h, ne-eqb _ _ (t .0), add-one) in
-    (rw (t .1, t .2) (omega arith), omega (arith, t .1, t .2), omega arith)
+-- the last line's end is the last byte
+pub last-none : (l : List ℕ) → length l ≡ 0 → 0 ≡ unended l
+last-none [] e = refl
+last-none (b ∷ l) e = absurd (omega arith)
 
-pub count-end : (l : List ℕ) (i ended begun : ℕ) → length l ≤ i → ended + countFrom begun (drop i l) ≡ countFrom 0 l → ended + begun ≡ length (linesOf l)
-unfolding countFrom
-count-end l i ended begun h e = let q : countFrom begun (drop i l) ≡ begun = rw (drop-of-length-le l h) in omega (arith, counted l)
+pub last-fed : (l : List ℕ) → (length l ≡ 0 → ⊥) → getD l (length l - 1) 0 ≡ 10 → 0 ≡ unended l
+last-fed [] n e = absurd (n refl)
+last-fed (b ∷ l) n e = let q : length (b ∷ l) - 1 ≡ length l = omega arith in rw (eq-eqb (getD (b ∷ l) (length l) 0) 10 (rw q at e)) refl
+
+pub last-unfed : (l : List ℕ) → (length l ≡ 0 → ⊥) → (getD l (length l - 1) 0 ≡ 10 → ⊥) → 1 ≡ unended l
+last-unfed [] n e = absurd (n refl)
+last-unfed (b ∷ l) n e = let q : length (b ∷ l) - 1 ≡ length l = omega arith in rw (ne-eqb (getD (b ∷ l) (length l) 0) 10 (rw q at e)) refl
+
+-- one byte further: it is a line feed, or not
+pub feeds-next : (l : List ℕ) (i n m : ℕ) → i < length l → n + feeds (drop i l) ≡ feeds l → ((getD l i 0 ≡ 10) × (m ≡ n + 1)) ⊎ ((getD l i 0 ≡ 10 → ⊥) × (m ≡ n)) → m + feeds (drop (i + 1) l) ≡ feeds l
+unfolding feeds
+feeds-next l i n m h e (inl t) =
+    let q : feeds (drop i l) ≡ 1 + feeds (drop (i + 1) l) = rw (drop-cons l i 0 h, eq-eqb _ _ (t .0), add-one) in
+    rw (t .1) (omega arith)
+feeds-next l i n m h e (inr t) =
+    let q : feeds (drop i l) ≡ feeds (drop (i + 1) l) = rw (drop-cons l i 0 h, ne-eqb _ _ (t .0), add-one) (omega arith) in
+    rw (t .1) (omega arith)
+
+-- some bytes further
+both : (p s : List ℕ) → feeds (p ++ s) ≡ feeds p + feeds s
+unfolding feeds
+both [] s = omega arith
+both (b ∷ p) s = omega (arith, both p s)
+
+pub feeds-on : (l : List ℕ) (i j n m : ℕ) → i ≤ j → n + feeds (drop i l) ≡ feeds l → m ≡ feeds (take (j - i) (drop i l)) → n + m + feeds (drop j l) ≡ feeds l
+feeds-on l i j n m h e k =
+    let q : i + (j - i) ≡ j = omega arith in
+    omega (arith, k, rw (take-append-drop, drop-drop, q) at (both (take (j - i) (drop i l)) (drop (j - i) (drop i l))))
+
+pub feeds-few : (l : List ℕ) → feeds l ≤ length l
+unfolding feeds
+feeds-few [] = omega arith
+feeds-few (b ∷ l) = elim (tested (eqb b 10)) [ holds t ↦ rw t (omega (arith, feeds-few l)) | fails t ↦ rw t (omega (arith, feeds-few l)) ]
+
+-- past the last byte all are counted
+pub feeds-done : (l : List ℕ) (i n : ℕ) → length l ≤ i → n + feeds (drop i l) ≡ feeds l → n ≡ feeds l
+unfolding feeds
+feeds-done l i n h e = let q : feeds (drop i l) ≡ 0 = rw (drop-of-length-le l h) in omega arith

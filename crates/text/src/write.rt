@@ -17,12 +17,20 @@ pub fn write_text(src: &[u8], out: &mut [u8], at: usize) -> usize
     at + i
 }
 
+// The last digit is put first, so that nobody need know beforehand how many there are.
 pub fn write_decimal(n: u64, out: &mut [u8], at: usize) -> usize
     requires { ⌜ at + 20 ≤ length (now out) ⌝ }
     ensures { λ r. ⌜ Written (now (out .entry)) at (decimal n) (now (out .exit)) r ⌝ }
     ensures { λ r. ⌜ r ≤ at + 20 ⌝ }
 {
     let mut digits = [0u8; 20];
-    let k = io::decimal(n, &mut digits);
-    write_text(&digits[..k], out, at)
+    let mut first: usize = 19;
+    let mut rest = n;
+    while 10 <= rest {
+        digits[first] = 48 + (rest % 10) as u8;
+        rest = rest / 10;
+        first -= 1;
+    }
+    digits[first] = 48 + rest as u8;
+    write_text(&digits[first..], out, at)
 }

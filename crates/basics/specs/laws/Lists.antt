@@ -1,15 +1,19 @@
 -- Lists that a loop fills or copies into, element by element.
-use mathlib.Core.Path.{_≡_, refl}
+use mathlib.Core.Path.{_≡_, refl, sym, _∙_}
 use mathlib.Core.Bool.{_&&_, cond}
-use mathlib.Core.List.{List, [], _∷_, _++_, append-assoc, append-nil}
+use mathlib.Core.List.{List, [], _∷_, _++_, map, append-assoc, append-nil}
 use Prim.Native.Nat.{ℕ, zero, suc, _+_, _-_, _≤_, _<_}
 use native.Mathlib.Nat.{le-of-suc-le-suc}
 use native.Mathlib.Omega.{arith}
 use lib.Dec.{leb, ltb, eqb}
-use lib.ListN.{length, getD, set, take, drop, length-drop, drop-of-length-le}
+use lib.ListN.{length, getD, set, take, drop, length-map, length-drop, drop-of-length-le}
 use lib.Seq.{getD-set-same, getD-set-other, drop-cons, set-at, take-all, drop-drop}
 use borrow.Author.Tests.{le-leb, le-ltb, lt-ltb, leb-true, ltb-true, ltb-false, eqb-true, eqb-false}
 use Rattle.basics.specs.laws.Logic.{tested, holds, fails}
+
+-- an array that is a field is known by the list of its elements' values, which is as long
+pub as-long : {X Y : Type 0} (f : X → Y) (l : List X) (n : ℕ) → length (map f l) ≡ n → length l ≡ n
+as-long f l n e = sym (length-map l f) ∙ e
 
 -- an element that is there does not depend on what would stand for a missing one
 pub getD-there : {A : Type 0} (y z : A) (l : List A) (i : ℕ) → i < length l → getD l i y ≡ getD l i z

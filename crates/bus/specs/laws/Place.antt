@@ -4,8 +4,9 @@ use mathlib.Core.Bool.{true, false}
 use mathlib.Core.List.{List, _++_}
 use Prim.Native.Nat.{ℕ, _≤_, _<_}
 use native.Mathlib.Omega.{arith}
-use borrow.Author.Tests.{leb-false, ltb-false}
-use Rattle.basics.specs.laws.Logic.{holds, fails, tested}
+use lib.Dec.{ltb}
+use borrow.Author.Tests.{leb-false, ltb-true, ltb-false, not-false}
+use Rattle.basics.specs.laws.Logic.{holds, fails, tested, and-right}
 use Rattle.chip.specs.Kinds.{outputsOf}
 use Rattle.chip.specs.laws.Registers.{outputs-few}
 use Rattle.device.specs.declared.Device.{Device}
@@ -39,6 +40,11 @@ questions-above d (Pin out) = refl
 
 pub position-first : (b : Bus) (dev : ℕ) (d : Device) (q : Question) → (codeOf (placeRefusals b dev) ≡ 0 → ⊥) → codeOf (placeRefusals b dev ++ questionRefusals d q) ≡ codeOf (placeRefusals b dev)
 position-first b dev d q p = code-first (placeRefusals b dev) (questionRefusals d q) 4 p (position-few b dev) (questions-above d q)
+
+-- where a position has no number, a device stands there
+pub position-there : (b : Bus) (dev : ℕ) → codeOf (placeRefusals b dev) ≡ 0 → dev < 8
+position-there b dev z =
+    ltb-true dev 8 (and-right (ltb dev (b .count)) (ltb dev 8) (not-false (hasDevice b dev) (accepted (placeRefusals b dev) refl z .0)))
 
 module _ (d : Device) where
   pub ext-byte : (c : Change) (level : ℕ) → c ≡ Ext level → codeOf (changeRefusals d c) ≡ 0 → level < 256

@@ -1,12 +1,12 @@
 -- Laws of the lines of an input: bytes without a line feed are the start of its first line.
 use Prim.Native.Nat.{ℕ, zero, suc, _+_, _≤_, _<_}
 use mathlib.Core.Path.{_≡_, refl, sym, ap, _∙_}
-use mathlib.Core.Bool.{false}
+use mathlib.Core.Bool.{false, cond}
 use mathlib.Core.List.{List, [], _∷_, _++_, append-assoc, append-nil}
 use mathlib.Core.Logic.{⊎-elim}
 use native.Mathlib.Nat.{le-of-suc-le-suc}
 use native.Mathlib.Omega.{arith}
-use lib.ListN.{length, take, drop, length-append, length-drop}
+use lib.ListN.{length, take, drop, getD, length-append, length-drop}
 use lib.Seq.{take-all, drop-append-le}
 use lib.Dec.{eqb}
 use Rattle.basics.specs.laws.Logic.{holds, fails, tested, lt-or-ge}
@@ -94,6 +94,34 @@ few-lines (b ∷ s) =
     put-few : (x : ℕ) (ls : List (List ℕ)) → length (onto x ls) ≤ 1 + length ls
     put-few x [] = omega arith
     put-few x (l ∷ ls) = omega arith
+
+-- ---- how many lines there are
+
+-- the line feeds of an input
+unfoldable pub feeds : List ℕ → ℕ
+feeds [] = 0
+feeds (b ∷ l) = cond (eqb b 10) 1 0 + feeds l
+
+-- 1 where the last line lacks its line feed
+abbrev pub unended : List ℕ → ℕ
+unended [] = 0
+unended (b ∷ l) = cond (eqb (getD (b ∷ l) (length l) 0) 10) 0 1
+
+-- a line for each line feed, and a last one that lacks it
+pub counted : (l : List ℕ) → length (linesOf l) ≡ feeds l + unended l
+unfolding linesOf feeds
+counted [] = refl
+counted (b ∷ []) = elim (tested (eqb b 10)) [ holds e ↦ rw e refl | fails e ↦ rw e refl ]
+counted (b ∷ c ∷ l) =
+    let i = counted (c ∷ l) in
+    elim (tested (eqb b 10)) [
+      | holds e ↦ rw e (omega (arith, i))
+      | fails e ↦ rw e (omega (arith, i, kept (linesOf (c ∷ l)) (some-line (c ∷ l) (omega arith))))
+    ]
+  where
+    kept : (ls : List (List ℕ)) → 1 ≤ length ls → length (onto b ls) ≡ length ls
+    kept [] h = absurd (omega arith)
+    kept (k ∷ ls) h = refl
 
 -- the first line, up to its line feed
 pub first-line : (l t : List ℕ) → endOf l < length l → linesOf (take (suc (endOf l)) l ++ t) ≡ take (endOf l) l ∷ linesOf t

@@ -15,16 +15,19 @@ Inv-loop input from i₀ i = i + endOf (drop i input) ≡ from + endOf (drop fro
 abbrev μ-loop : tie.MeasureT-loop
 μ-loop input from i₀ i = length input - i
 
+loop-holds : tie.Need-loop-holds Inv-loop μ-loop
+loop-holds c = c .skip-sixteens .ensures
+
 returns : tie.Need-returns Inv-loop μ-loop
 returns c = let l = c .before .before .before in sym (end-here _ _ (c .before .before .loop-test .taken) (c .if1 .taken)) ∙ l .loop .inv
 
 loop-again : tie.Need-loop-again Inv-loop μ-loop
 loop-again c =
     let l = c .before .before .before in
-    end-on (now (l .before .args .input)) (l .loop .i) (c .before .before .loop-test .taken) (c .if1 .left) ∙ l .loop .inv
+    end-on (now (l .before .before .before .args .input)) (l .loop .i) (c .before .before .loop-test .taken) (c .if1 .left) ∙ l .loop .inv
 
 returns-2 : tie.Need-returns-2 Inv-loop μ-loop
-returns-2 c = let l = c .before in sym (end-none (now (l .before .args .input)) (l .loop .i) (c .loop-test .left)) ∙ l .loop .inv
+returns-2 c = let l = c .before in sym (end-none (now (l .before .before .before .args .input)) (l .loop .i) (c .loop-test .left)) ∙ l .loop .inv
 
 pub line-end-spec : {M : Type 1} → statement M
 line-end-spec =
@@ -32,7 +35,8 @@ line-end-spec =
     (tie.spec
     Inv-loop
     μ-loop
-    (λ c. search needs)
+    (λ c κs. search needs)
+    loop-holds
     (λ c. search needs)
     returns
     (λ c. search needs)
