@@ -16,6 +16,7 @@ pub use devices::device_at;
 pub use devices::empty;
 pub use devices::is_ok;
 pub use devices::with_device;
+pub use place::answer_of;
 pub use replies::done;
 pub use replies::refused;
 
@@ -38,9 +39,9 @@ pub struct Answer {
     pub value: u64,
 }
 
-// The answer to a request that asks; any other request.
+// A question for a device that stands on the bus; any other request.
 pub enum Asked {
-    Answered(Answer),
+    Device { dev: u64, question: Question },
     Other,
 }
 

@@ -108,8 +108,8 @@ fn value_of(d: Device, question: Question) -> u64
     }
 }
 
-// What the device that is asked answers.
-fn answer_of(d: Device, question: Question) -> Answer
+// What the device that is asked answers: the bus stays as it was, and need not be handed back.
+pub fn answer_of(d: Device, question: Question) -> Answer
     ensures { λ r. ⌜ r .code ≡ codeOf (questionRefusals d question) ⌝ }
     ensures { λ r. ⌜ r .value ≡ cond (eqb (r .code) 0) (valueOf d question) 0 ⌝ }
 {
@@ -127,31 +127,20 @@ fn answer_of(d: Device, question: Question) -> Answer
     }
 }
 
-// The answer to a question, where the bus stays as it was.
-pub fn answer(ok: bool, bus: Bus, dev: u64, question: Question) -> Answer
-    requires { ⌜ ok ≡ busOk bus ⌝ }
-    ensures { λ r. ⌜ record { code = r .code; value = r .value; bus = bus } ≡ stepReply bus (E.Ask dev question) ⌝ }
-{
-    let code = place_code(ok, bus, dev);
-    if code == 0 {
-        answer_of(bus.devices[dev as usize], question)
-    } else {
-        Answer {
-            code: code,
-            value: 0,
-        }
-    }
-}
-
 pub fn ask(ok: bool, bus: Bus, dev: u64, question: Question) -> Reply
     requires { ⌜ ok ≡ busOk bus ⌝ }
     ensures { λ r. ⌜ r ≡ stepReply bus (E.Ask dev question) ⌝ }
 {
-    let a = answer(ok, bus, dev, question);
-    Reply {
-        code: a.code,
-        value: a.value,
-        bus: bus,
+    let code = place_code(ok, bus, dev);
+    if code == 0 {
+        let a = answer_of(crate::devices::device_at(bus, dev), question);
+        Reply {
+            code: a.code,
+            value: a.value,
+            bus: bus,
+        }
+    } else {
+        crate::refused(bus, code)
     }
 }
 

@@ -6,7 +6,7 @@ use crate::Reply;
 use crate::Request;
 ghost use mathlib.Core.Path.{_≡_};
 ghost use Rattle.bus.specs.Devices.{busOk};
-ghost use Rattle.bus.specs.Asked.{Answers};
+ghost use Rattle.bus.specs.Asked.{Asks};
 ghost use Rattle.bus.specs.Events.{stepReply, requestReply};
 
 pub fn step_judged(ok: bool, bus: Bus, event: Event) -> Reply
@@ -31,10 +31,9 @@ pub fn request_judged(ok: bool, bus: Bus, request: Request) -> Reply
     }
 }
 
-// The answer to a request that asks. It comes without the bus, which stays as it was: one that is handed back is copied.
-pub fn question_judged(ok: bool, bus: Bus, request: Request) -> Asked
-    requires { ⌜ ok ≡ busOk bus ⌝ }
-    ensures { λ r. ⌜ Answers bus (requestReply bus request) r ⌝ }
+// Who is asked, on a bus of that many devices. A question at a position where none stands is left to request_judged, as all else is.
+pub fn asked(ok: bool, count: u8, request: Request) -> Asked
+    ensures { λ r. ⌜ Asks ok count request r ⌝ }
 {
     let Request::Known(event) = request else {
         return Asked::Other;
@@ -42,5 +41,9 @@ pub fn question_judged(ok: bool, bus: Bus, request: Request) -> Asked
     let Event::Ask { dev, question } = event else {
         return Asked::Other;
     };
-    Asked::Answered(crate::place::answer(ok, bus, dev, question))
+    if ok && dev < count as u64 && dev < 8 {
+        Asked::Device { dev, question }
+    } else {
+        Asked::Other
+    }
 }

@@ -118,9 +118,11 @@ pub fn driver_lit(d: Device, out: u8, ticks: DriverTicks) -> DriverTicks
 {
     let chip = d.chip;
     if chip::is_driver(chip) {
+        let mode = driver_output(d, out);
+        let at = DriverTicks(d.count);
         if registers::is_awake(d) {
-            lamp::driver_lit_ticks(driver_output(d, out), DriverTicks(d.count), ticks)
-        } else if is_lit(d, out) {
+            lamp::driver_lit_ticks(mode, at, ticks)
+        } else if lamp::driver_lit(mode, at) {
             ticks
         } else {
             DriverTicks(0)

@@ -8,7 +8,7 @@ use crate::parser::parse;
 use bus::Asked;
 use bus::Bus;
 use bus::Reply;
-use bus::proved_callers::question_judged;
+use bus::proved_callers::asked;
 use bus::proved_callers::request_judged;
 use text::line_end;
 
@@ -78,8 +78,9 @@ pub fn run(first: State, input: &[u8], out: &mut [u8]) -> Ran
         }
         let request = parse(&input[from..end]);
         let n = next_number(lines);
-        let asked = question_judged(ok, bus, request);
-        if let Asked::Answered(a) = asked {
+        let asked = asked(ok, bus.count, request);
+        if let Asked::Device { dev, question } = asked {
+            let a = bus::answer_of(bus.devices[dev as usize], question);
             at = write_answer(n, a.code, a.value, out, at);
         } else {
             let r = request_judged(ok, bus, request);

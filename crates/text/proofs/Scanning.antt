@@ -1,5 +1,5 @@
 -- The loops over an input: to the next line feed, and counting them.
-use Prim.Native.Nat.{ℕ, _+_, _-_, _≤_, _<_}
+use Prim.Native.Nat.{ℕ, min, _+_, _-_, _≤_, _<_}
 use mathlib.Core.Path.{_≡_, refl}
 use mathlib.Core.List.{List, [], _∷_, _++_}
 use mathlib.Core.Logic.{_⊎_, inl, inr}
@@ -57,14 +57,22 @@ last-unfed [] n e = absurd (n refl)
 last-unfed (b ∷ l) n e = let q : length (b ∷ l) - 1 ≡ length l = omega arith in rw (ne-eqb (getD (b ∷ l) (length l) 0) 10 (rw q at e)) refl
 
 -- one byte further: it is a line feed, or not
-pub feeds-next : (l : List ℕ) (i n m : ℕ) → i < length l → n + feeds (drop i l) ≡ feeds l → ((getD l i 0 ≡ 10) × (m ≡ n + 1)) ⊎ ((getD l i 0 ≡ 10 → ⊥) × (m ≡ n)) → m + feeds (drop (i + 1) l) ≡ feeds l
-unfolding feeds
-feeds-next l i n m h e (inl t) =
-    let q : feeds (drop i l) ≡ 1 + feeds (drop (i + 1) l) = rw (drop-cons l i 0 h, eq-eqb _ _ (t .0), add-one) in
-    rw (t .1) (omega arith)
-feeds-next l i n m h e (inr t) =
-    let q : feeds (drop i l) ≡ feeds (drop (i + 1) l) = rw (drop-cons l i 0 h, ne-eqb _ _ (t .0), add-one) (omega arith) in
-    rw (t .1) (omega arith)
+module _ (l : List ℕ) (i : ℕ) (h : i < length l) where
+  feed-here : getD l i 0 ≡ 10 → feeds (drop i l) ≡ 1 + feeds (drop (i + 1) l)
+  unfolding feeds
+  feed-here e = rw (drop-cons l i 0 h, eq-eqb _ _ e, add-one)
+
+  feed-else : (getD l i 0 ≡ 10 → ⊥) → feeds (drop i l) ≡ feeds (drop (i + 1) l)
+  unfolding feeds
+  feed-else n = rw (drop-cons l i 0 h, ne-eqb _ _ n, add-one) (omega arith)
+
+  pub feeds-next : (n m : ℕ) → n + feeds (drop i l) ≡ feeds l → ((getD l i 0 ≡ 10) × (m ≡ n + 1)) ⊎ ((getD l i 0 ≡ 10 → ⊥) × (m ≡ n)) → m + feeds (drop (i + 1) l) ≡ feeds l
+  feeds-next n m e (inl t) = omega (arith, t .1, feed-here (t .0))
+  feeds-next n m e (inr t) = omega (arith, t .1, feed-else (t .0))
+
+  pub feed-next : (n m : ℕ) → n ≤ 1 → min (n + feeds (drop i l)) 1 ≡ min (feeds l) 1 → ((getD l i 0 ≡ 10) × (m ≡ 1)) ⊎ ((getD l i 0 ≡ 10 → ⊥) × (m ≡ n)) → (m ≤ 1) × (min (m + feeds (drop (i + 1) l)) 1 ≡ min (feeds l) 1)
+  feed-next n m h e (inl t) = (omega (arith, t .1), omega (arith, t .1, feed-here (t .0)))
+  feed-next n m h e (inr t) = (omega (arith, t .1), omega (arith, t .1, feed-else (t .0)))
 
 -- some bytes further
 both : (p s : List ℕ) → feeds (p ++ s) ≡ feeds p + feeds s
@@ -82,7 +90,13 @@ unfolding feeds
 feeds-few [] = omega arith
 feeds-few (b ∷ l) = elim (tested (eqb b 10)) [ holds t ↦ rw t (omega (arith, feeds-few l)) | fails t ↦ rw t (omega (arith, feeds-few l)) ]
 
--- past the last byte all are counted
-pub feeds-done : (l : List ℕ) (i n : ℕ) → length l ≤ i → n + feeds (drop i l) ≡ feeds l → n ≡ feeds l
+-- past the last byte all are seen, and all are counted
+feeds-none : (l : List ℕ) (i : ℕ) → length l ≤ i → feeds (drop i l) ≡ 0
 unfolding feeds
-feeds-done l i n h e = let q : feeds (drop i l) ≡ 0 = rw (drop-of-length-le l h) in omega arith
+feeds-none l i h = rw (drop-of-length-le l h)
+
+pub feed-done : (l : List ℕ) (i n : ℕ) → length l ≤ i → n ≤ 1 → min (n + feeds (drop i l)) 1 ≡ min (feeds l) 1 → n ≡ min (feeds l) 1
+feed-done l i n h k e = omega (arith, feeds-none l i h)
+
+pub feeds-done : (l : List ℕ) (i n : ℕ) → length l ≤ i → n + feeds (drop i l) ≡ feeds l → n ≡ feeds l
+feeds-done l i n h e = omega (arith, feeds-none l i h)

@@ -1,24 +1,23 @@
 // Where the lines of an input end, and how many there are.
 ghost use mathlib.Core.Path.{_≡_};
-ghost use Prim.Native.Nat.{_+_, _≤_};
+ghost use Prim.Native.Nat.{min, _+_, _≤_};
 ghost use lib.ListN.{length, drop};
 ghost use Rattle.text.specs.Lines.{linesOf, endOf};
 ghost use Rattle.text.specs.laws.Lines.{feeds, unended};
 
-// The line feeds of a few bytes. They are counted in a byte, so that the compiler takes sixteen bytes at a time.
-fn feeds_in(part: &[u8]) -> u8
-    requires { ⌜ length (now part) ≤ 240 ⌝ }
-    ensures { λ r. ⌜ r ≡ feeds (now (part .entry)) ⌝ }
+// 1 where a line feed is among some bytes. It looks at all of them, so that the compiler takes sixteen at a time.
+fn feed_in(part: &[u8]) -> u8
+    ensures { λ r. ⌜ r ≡ min (feeds (now (part .entry))) 1 ⌝ }
 {
-    let mut n: u8 = 0;
+    let mut seen: u8 = 0;
     let mut i: usize = 0;
     while i < part.len() {
         if part[i] == 10 {
-            n += 1;
+            seen = 1;
         }
         i += 1;
     }
-    n
+    seen
 }
 
 // Past whole sixteens of bytes that have no line feed.
@@ -31,7 +30,7 @@ fn skip_sixteens(input: &[u8], from: usize) -> usize
             return i;
         }
         let end = i + 16;
-        if feeds_in(&input[i..end]) != 0 {
+        if feed_in(&input[i..end]) == 1 {
             return i;
         }
         i = end;
@@ -51,6 +50,22 @@ pub fn line_end(input: &[u8], from: usize) -> usize
         i += 1;
     }
     i
+}
+
+// The line feeds of a few bytes. They are counted in a byte, so that the compiler takes sixteen at a time.
+fn feeds_in(part: &[u8]) -> u8
+    requires { ⌜ length (now part) ≤ 240 ⌝ }
+    ensures { λ r. ⌜ r ≡ feeds (now (part .entry)) ⌝ }
+{
+    let mut n: u8 = 0;
+    let mut i: usize = 0;
+    while i < part.len() {
+        if part[i] == 10 {
+            n += 1;
+        }
+        i += 1;
+    }
+    n
 }
 
 // 1 where an input's last line lacks its line feed.

@@ -36,6 +36,12 @@ module _ {A : Type 0} (f : A → A) where
   map-firsts (suc n) [] = refl
   map-firsts (suc n) (x ∷ l) = ap (λ (t : List A). f x ∷ t) (map-firsts n l)
 
+  pub map-long : (n : ℕ) (l : List A) → length (mapFirst n f l) ≡ length l
+  unfolding mapFirst
+  map-long zero l = refl
+  map-long (suc n) [] = refl
+  map-long (suc n) (x ∷ l) = ap suc (map-long n l)
+
   pub map-done : (l now : List A) (i n : ℕ) → i ≤ n → n ≤ i → now ≡ mapFirst i f l → now ≡ mapFirst n f l
   map-done l now i n h k e = let q : n ≡ i = omega arith in rw q e
 

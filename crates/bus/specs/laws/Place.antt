@@ -1,22 +1,25 @@
 -- A change or a question at a position: its code is that of the position and of the device there, and what one that is not refused comes with is a byte.
-use mathlib.Core.Path.{_≡_, refl, ap, _∙_}
-use mathlib.Core.Bool.{true, false}
+use mathlib.Core.Path.{_≡_, refl, sym, ap, _∙_}
+use mathlib.Core.Bool.{true, false, cond}
 use mathlib.Core.List.{List, _++_}
 use Prim.Native.Nat.{ℕ, _≤_, _<_}
 use native.Mathlib.Omega.{arith}
-use lib.Dec.{ltb}
-use borrow.Author.Tests.{leb-false, ltb-true, ltb-false, not-false}
-use Rattle.basics.specs.laws.Logic.{holds, fails, tested, and-right}
+use lib.Dec.{eqb}
+use borrow.Author.Tests.{leb-false, lt-ltb, ltb-false}
+use Rattle.basics.specs.laws.Logic.{holds, fails, tested}
 use Rattle.chip.specs.Kinds.{outputsOf}
 use Rattle.chip.specs.laws.Registers.{outputs-few}
 use Rattle.device.specs.declared.Device.{Device}
 use Rattle.refusals.specs.Refusals.{Refusal, least, codeOf}
 use Rattle.refusals.specs.laws.Refusals.{refused-both, above, code-first, accepted}
 use Rattle.bus.specs.Devices.{busOk, hasDevice, deviceAt}
-use Rattle.bus.specs.Place.{placeRefusals, changeRefusals, isMissing, questionRefusals}
+use Rattle.bus.specs.Place.{placeRefusals, changeRefusals, isMissing, questionRefusals, valueOf}
+use Rattle.bus.specs.Events.{stepRefusals, stepDone, stepReply}
+use Rattle.bus.specs.laws.Replies.{answer-is}
 use Rattle.bus.specs.declared.Bus.{Bus}
 use Rattle.bus.specs.declared.Change.{Change}
 use Rattle.bus.specs.declared.Change.the-variants.{Ext}
+use Rattle.bus.specs.declared.Event.the-variants.{Ask}
 use Rattle.bus.specs.declared.Question.{Question}
 use Rattle.bus.specs.declared.Question.the-variants.{Lit, Pin}
 
@@ -41,10 +44,15 @@ questions-above d (Pin out) = refl
 pub position-first : (b : Bus) (dev : ℕ) (d : Device) (q : Question) → (codeOf (placeRefusals b dev) ≡ 0 → ⊥) → codeOf (placeRefusals b dev ++ questionRefusals d q) ≡ codeOf (placeRefusals b dev)
 position-first b dev d q p = code-first (placeRefusals b dev) (questionRefusals d q) 4 p (position-few b dev) (questions-above d q)
 
--- where a position has no number, a device stands there
-pub position-there : (b : Bus) (dev : ℕ) → codeOf (placeRefusals b dev) ≡ 0 → dev < 8
-position-there b dev z =
-    ltb-true dev 8 (and-right (ltb dev (b .count)) (ltb dev 8) (not-false (hasDevice b dev) (accepted (placeRefusals b dev) refl z .0)))
+-- and there are none where a device stands on a well-formed bus
+pub position-free : (b : Bus) (dev : ℕ) → busOk b ≡ true → dev < b .count → dev < 8 → codeOf (placeRefusals b dev) ≡ 0
+unfolding codeOf least
+position-free b dev o h k = rw (lt-ltb dev (b .count) h, lt-ltb dev 8 k, o) refl
+
+-- what the device answers is the reply where its position has no number
+pub device-answers : (b : Bus) (dev : ℕ) (q : Question) (d : Device) (k v : ℕ) → codeOf (placeRefusals b dev) ≡ 0 → d ≡ deviceAt b dev → k ≡ codeOf (questionRefusals d q) → v ≡ cond (eqb k 0) (valueOf d q) 0 → record { code = k; value = v; bus = b } ≡ stepReply b (Ask dev q)
+unfolding stepReply stepRefusals stepDone least
+device-answers b dev q d k v z e p w = answer-is _ _ _ _ _ (placed-code b dev (λ x. questionRefusals x q) d 0 k k e (sym z) p refl) (rw (← e) w)
 
 module _ (d : Device) where
   pub ext-byte : (c : Change) (level : ℕ) → c ≡ Ext level → codeOf (changeRefusals d c) ≡ 0 → level < 256

@@ -5,6 +5,7 @@ use Prim.Native.Nat.{ℕ, _+_}
 use native.Mathlib.Numerals.{add-one}
 use native.Mathlib.Omega.{arith}
 use lib.Dec.{leb, ltb, eqb}
+use lib.ListN.{length, length-set}
 use borrow.Author.Tests.{leb-false, le-leb, ltb-true, not-false}
 use Rattle.basics.specs.laws.Logic.{holds, fails, tested, and-left, and-right}
 use Rattle.chip.specs.Kinds.{chipNumbered}
@@ -24,12 +25,13 @@ use Rattle.protocol.specs.declared.Signal.{Signal}
 use Rattle.refusals.specs.Refusals.{holdsAt}
 use Rattle.refusals.specs.laws.Refusals.{positive, NoneHolds, none-at}
 use Rattle.basics.specs.First.{allFirst}
-use Rattle.basics.specs.laws.First.{all-at, all-set, all-added, all-mapped}
+use Rattle.basics.specs.laws.First.{map-long, all-at, all-set, all-added, all-mapped}
 use Rattle.bus.specs.Devices.{busOk, hasDevice, deviceAt, withDevice, withAdded, busAfter}
 use Rattle.bus.specs.Add.{isBarred, addedTo}
 use Rattle.bus.specs.Signals.{signalOf}
 use Rattle.bus.specs.Place.{changeRefusals, afterChange, questionRefusals}
-use Rattle.bus.specs.Events.{stepRefusals, stepDone}
+use Rattle.bus.specs.Events.{stepRefusals, stepDone, stepReply}
+use Rattle.bus.specs.laws.Replies.{answer-bus}
 use Rattle.bus.specs.declared.Bus.{Bus}
 use Rattle.bus.specs.declared.Change.{Change}
 use Rattle.bus.specs.declared.Change.the-variants as C
@@ -162,3 +164,20 @@ done-code b (E.Add chip addr) = refl
 done-code b (E.Signal s) = refl
 done-code b (E.Change dev c) = refl
 done-code b (E.Ask dev q) = refl
+
+-- no event changes how many places there are
+added-places : (b : Bus) (found : Lookup) (address : ℕ) → length (addedTo b found address .devices) ≡ length (b .devices)
+added-places b Unknown address = refl
+added-places b (Known chip) address = length-set (b .devices) (b .count) (fresh chip address)
+
+done-places : (b : Bus) (e : Event) → length (stepDone b e .bus .devices) ≡ length (b .devices)
+unfolding stepDone
+done-places b (E.Add chip addr) = added-places b (chipNumbered chip) addr
+done-places b (E.Signal s) = map-long _ (b .count) (b .devices)
+done-places b (E.Change dev c) = length-set (b .devices) _ _
+done-places b (E.Ask dev q) = refl
+
+pub step-places : (b : Bus) (e : Event) → length (stepReply b e .bus .devices) ≡ length (b .devices)
+unfolding stepReply
+step-places b e =
+    answer-bus (stepRefusals b e) b (stepDone b e) (λ (x : Bus). length (x .devices) ≡ length (b .devices)) (step-positive b e) refl (λ n. done-places b e)

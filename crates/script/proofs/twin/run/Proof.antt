@@ -2,19 +2,23 @@
 use Rattle.text.specs.laws.Run.{Did, did-none, did-all}
 use Rattle.script.specs.Twin.{twin}
 use Rattle.script.specs.laws.Turn.{turn}
+use Rattle.basics.specs.laws.Lists.{as-long, getD-there}
+use Rattle.chip.specs.declared.Chip.the-variants.{Pca9635}
+use Rattle.device.specs.Reset.{fresh}
+use Rattle.bus.specs.laws.Place.{position-free, device-answers}
 use Rattle.bus.specs.Devices.{busOk}
 use denote.Ref.{now}
 use native.Mathlib.Omega.{arith}
 use borrow.Author.Needs.{needs}
 use lib.ListN.{length}
 use mathlib.Core.Logic.{inl, inr, ⊎-elim}
-use mathlib.Core.Path.{_≡_, _∙_}
+use mathlib.Core.Path.{_≡_, sym, _∙_}
 use Prim.Native.Nat.{_+_, _-_}
 use Rattle.script.proofs.twin.run.Statement.{statement}
 use Rattle.script.proofs.twin.run.Tie as tie
 
 abbrev Inv-loop : tie.InvT-loop
-Inv-loop input out₀ lines₀ bus₀ from₀ at₀ most ok out lines bus from at = Did twin (record { lines = lines₀; bus = bus₀ }) input out₀ out from at (record { lines = lines; bus = bus }) × (ok ≡ busOk bus) × (length out ≡ length out₀) × (most + 76 ≡ length out₀)
+Inv-loop input out₀ lines₀ bus₀ from₀ at₀ most ok out lines bus from at = Did twin (record { lines = lines₀; bus = bus₀ }) input out₀ out from at (record { lines = lines; bus = bus }) × (ok ≡ busOk bus) × (length out ≡ length out₀) × (most + 76 ≡ length out₀) × (length (bus .devices) ≡ 8)
 
 abbrev μ-loop : tie.MeasureT-loop
 μ-loop input out₀ lines₀ bus₀ from₀ at₀ most ok out lines bus from at = length input - from
@@ -27,15 +31,18 @@ returns c =
 loop-holds : tie.Need-loop-holds Inv-loop μ-loop
 loop-holds c =
     let a = c .before .before .before .before .before in
-    (did-none twin (a .args .first) (now (a .args .input)) (now (a .args .out)), c .is-ok .ensures, search needs, search needs)
+    (did-none twin (a .args .first) (now (a .args .input)) (now (a .args .out)), c .is-ok .ensures, search needs, search needs, search (needs, as-long))
 
 returns-2 : tie.Need-returns-2 Inv-loop μ-loop
 returns-2 c =
     let e = c .before .before in
     rw (c .ran-to2 .ensures) (did-all twin (e .before .before .loop .inv .0) (inl (rw (e .line-end .ensures) at (c .before .if2 .taken))))
 
-question-judged-requires : tie.Need-question-judged-requires Inv-loop μ-loop
-question-judged-requires c κs = c .before .before .before .before .before .before .loop .inv .1
+mul-answer-of : tie.Need-mul-answer-of Inv-loop μ-loop
+mul-answer-of c = let w = rw (c .before .asked2 .given .1) at (c .before .before .before .asked .ensures) in omega (arith, w .3)
+
+element-copy-out-answer-of : tie.Need-element-copy-out-answer-of Inv-loop μ-loop
+element-copy-out-answer-of c = let w = rw (c .before .asked2 .given .1) at (c .before .before .before .asked .ensures) in w .3
 
 request-judged-requires : tie.Need-request-judged-requires Inv-loop μ-loop
 request-judged-requires c κs = c .before .before .before .before .before .before .before .before .before .loop .inv .1
@@ -45,15 +52,19 @@ loop-again c =
     let n = c .before .before in
     let p = n .before in
     let e = p .before .before .before in
-    let i = e .before .before .loop .inv in
+    let l = e .before .before .loop in
+    let i = l .inv in
     let more = turn (e .line-end .result) (n .next-number .result) (p .parse .result) (i .0) (e .line-end .ensures) (p .before .before .if2 .left) (n .next-number .ensures) (p .parse .ensures) in
     ⊎-elim
     (λ t.
-    let m = more _ _ _ (rw (t .1 .given .1) at (c .before .question-judged .ensures)) (t .4 .ensures) in
-    rw (t .7, t .8, t .9) (m .0, i .1 ∙ m .1, search needs, search needs))
+    let w = rw (t .1 .given .1) at (c .before .asked .ensures) in
+    let there = getD-there _ (fresh Pca9635 0) (l .bus .devices) (t .1 .given .0 .0) (omega (arith, w .3, i .4)) in
+    let told = device-answers (l .bus) (t .1 .given .0 .0) (t .1 .given .0 .1 .0) _ _ _ (position-free (l .bus) (t .1 .given .0 .0) (sym (i .1) ∙ w .1) (w .2) (w .3)) there (t .4 .ensures .0) (t .4 .ensures .1) in
+    let m = more _ _ _ (rw (w .0) told) (t .6 .ensures) in
+    rw (t .9, t .10, t .11) (m .0, i .1 ∙ m .1, search needs, search needs, i .4))
     (λ t.
     let m = more _ _ _ (t .2 .ensures) (t .4 .ensures) in
-    rw (t .8, t .9, t .10) (m .0, i .1 ∙ m .1, search needs, search needs))
+    rw (t .8, t .9, t .10) (m .0, i .1 ∙ m .1, search needs, search needs, m .2 ∙ i .4))
     (c .match .came)
 
 returns-3 : tie.Need-returns-3 Inv-loop μ-loop
@@ -79,8 +90,11 @@ run-spec =
     (λ c. search needs)
     (λ c κs. search needs)
     (λ c κs. search needs)
-    question-judged-requires
+    (λ c κs. search needs)
     (λ c. search needs)
+    mul-answer-of
+    element-copy-out-answer-of
+    (λ c κs. search needs)
     (λ c κs. search needs)
     (λ c. search needs)
     request-judged-requires

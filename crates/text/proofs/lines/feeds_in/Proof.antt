@@ -25,7 +25,7 @@ add-n c =
 loop-again : tie.Need-loop-again Inv-loop μ-loop
 loop-again c =
     let l = c .before .before .before in (
-      feeds-next (now (l .before .args .part)) (l .loop .i) (l .loop .n) _ (c .before .before .loop-test .taken) (l .loop .inv .0)
+      feeds-next (now (l .before .args .part)) (l .loop .i) (c .before .before .loop-test .taken) (l .loop .n) _ (l .loop .inv .0)
           (⊎-elim (λ t. inl (t .0 .taken, t .1)) (λ t. inr (t .0 .left, t .1)) (c .if1 .came)),
       ⊎-elim (λ t. omega (arith, t .1, l .loop .inv .1)) (λ t. omega (arith, t .1, l .loop .inv .1)) (c .if1 .came),
       search needs,

@@ -1,11 +1,12 @@
 -- `skip_sixteens`: no line feed stands before `i`.
 use Rattle.text.proofs.Scanning.{end-past}
 use Rattle.text.specs.Lines.{endOf}
+use Rattle.text.specs.laws.Lines.{feeds}
 use denote.Ref.{now}
 use native.Mathlib.Omega.{arith}
 use borrow.Author.Needs.{needs}
-use lib.ListN.{length, drop, length-take}
-use mathlib.Core.Path.{_≡_, sym, _∙_}
+use lib.ListN.{length, take, drop}
+use mathlib.Core.Path.{_≡_, _∙_}
 use Prim.Native.Nat.{_+_, _-_}
 use Rattle.text.proofs.lines.skip_sixteens.Statement.{statement}
 use Rattle.text.proofs.lines.skip_sixteens.Tie as tie
@@ -16,9 +17,6 @@ Inv-loop input from i₀ i = i + endOf (drop i input) ≡ from + endOf (drop fro
 abbrev μ-loop : tie.MeasureT-loop
 μ-loop input from i₀ i = length input - i
 
-feeds-in-requires : tie.Need-feeds-in-requires Inv-loop μ-loop
-feeds-in-requires c κs = rw length-take (omega arith)
-
 loop-again : tie.Need-loop-again Inv-loop μ-loop
 loop-again c =
     let f = c .before in
@@ -27,7 +25,8 @@ loop-again c =
     let input = now (l .before .before .args .input) in
     let i = l .loop .i in
     let q : i + 16 - i ≡ 16 = omega arith in
-    end-past input i 16 (omega (arith, e .before .loop-test .taken, e .if1 .left)) (rw q at (sym (f .feeds-in .ensures) ∙ c .if2 .left)) ∙ l .loop .inv
+    let none : feeds (take 16 (drop i input)) ≡ 0 = omega (arith, rw q at (f .feed-in .ensures), c .if2 .left) in
+    end-past input i 16 (omega (arith, e .before .loop-test .taken, e .if1 .left)) none ∙ l .loop .inv
 
 pub skip-sixteens-spec : {M : Type 1} → statement M
 skip-sixteens-spec =
@@ -42,7 +41,7 @@ skip-sixteens-spec =
     (λ c. search needs)
     (λ c. search needs)
     (λ c. search needs)
-    feeds-in-requires
+    (λ c κs. search needs)
     (λ c. search needs)
     (λ c. search needs)
     loop-again
