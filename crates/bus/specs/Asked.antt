@@ -1,13 +1,20 @@
--- Who is asked: the request is that question, and the device stands on a well-formed bus. `Other` says nothing of the request.
-use Prim.Native.Nat.{ℕ, _<_}
-use mathlib.Core.Bool.{Bool, true}
-use mathlib.Core.Path.{_≡_}
+-- Who is asked: the device at a position, where one stands on a well-formed bus of so many devices.
+use Prim.Native.Nat.{ℕ}
+use mathlib.Core.Bool.{Bool, _&&_, cond}
+use lib.Dec.{ltb}
 use Rattle.bus.specs.declared.Asked.{Asked}
 use Rattle.bus.specs.declared.Asked.the-variants.{Device, Other}
-use Rattle.bus.specs.declared.Event.the-variants.{Ask}
+use Rattle.bus.specs.declared.Event.{Event}
+use Rattle.bus.specs.declared.Event.the-variants.{Add, Signal, Change, Ask}
 use Rattle.bus.specs.declared.Request.{Request}
-use Rattle.bus.specs.declared.Request.the-variants.{Known}
+use Rattle.bus.specs.declared.Request.the-variants.{Known, Unknown}
 
-abbrev pub Asks : Bool → ℕ → Request → Asked → Type 0
-Asks ok count r (Device dev q) = (r ≡ Known (Ask dev q)) × (ok ≡ true) × (dev < count) × (dev < 8)
-Asks ok count r Other = Unit {0}
+unfoldable pub askedBy : Bool → ℕ → Event → Asked
+askedBy ok count (Add chip addr) = Other
+askedBy ok count (Signal s) = Other
+askedBy ok count (Change dev c) = Other
+askedBy ok count (Ask dev q) = cond (ok && (ltb dev count && ltb dev 8)) (Device dev q) Other
+
+unfoldable pub askedOf : Bool → ℕ → Request → Asked
+askedOf ok count (Known e) = askedBy ok count e
+askedOf ok count Unknown = Other

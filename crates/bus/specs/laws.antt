@@ -1,3 +1,4 @@
+pub mod Asked
 pub mod Place
 pub mod Replies
 pub mod Signals

@@ -6,7 +6,7 @@ use crate::Reply;
 use crate::Request;
 ghost use mathlib.Core.Path.{_≡_};
 ghost use Rattle.bus.specs.Devices.{busOk};
-ghost use Rattle.bus.specs.Asked.{Asks};
+ghost use Rattle.bus.specs.Asked.{askedBy, askedOf};
 ghost use Rattle.bus.specs.Events.{stepReply, requestReply};
 
 pub fn step_judged(ok: bool, bus: Bus, event: Event) -> Reply
@@ -31,19 +31,29 @@ pub fn request_judged(ok: bool, bus: Bus, request: Request) -> Reply
     }
 }
 
-// Who is asked, on a bus of that many devices. A question at a position where none stands is left to request_judged, as all else is.
-pub fn asked(ok: bool, count: u8, request: Request) -> Asked
-    ensures { λ r. ⌜ Asks ok count request r ⌝ }
+fn asked_by(ok: bool, count: u8, event: Event) -> Asked
+    ensures { λ r. ⌜ r ≡ askedBy ok count event ⌝ }
 {
-    let Request::Known(event) = request else {
-        return Asked::Other;
-    };
-    let Event::Ask { dev, question } = event else {
-        return Asked::Other;
-    };
-    if ok && dev < count as u64 && dev < 8 {
-        Asked::Device { dev, question }
-    } else {
-        Asked::Other
+    match event {
+        Event::Add { chip: _, addr: _ } => Asked::Other,
+        Event::Signal(_) => Asked::Other,
+        Event::Change { dev: _, change: _ } => Asked::Other,
+        Event::Ask { dev, question } => {
+            if ok && dev < count as u64 && dev < 8 {
+                Asked::Device { dev, question }
+            } else {
+                Asked::Other
+            }
+        }
+    }
+}
+
+// Who is asked, on a bus of so many devices: a caller that has that device at hand need not hand the bus on for its answer.
+pub fn asked(ok: bool, count: u8, request: Request) -> Asked
+    ensures { λ r. ⌜ r ≡ askedOf ok count request ⌝ }
+{
+    match request {
+        Request::Known(event) => asked_by(ok, count, event),
+        Request::Unknown => Asked::Other,
     }
 }

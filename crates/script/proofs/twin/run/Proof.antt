@@ -5,6 +5,7 @@ use Rattle.script.specs.laws.Turn.{turn}
 use Rattle.basics.specs.laws.Lists.{as-long, getD-there}
 use Rattle.chip.specs.declared.Chip.the-variants.{Pca9635}
 use Rattle.device.specs.Reset.{fresh}
+use Rattle.bus.specs.laws.Asked.{asked-device}
 use Rattle.bus.specs.laws.Place.{position-free, device-answers}
 use Rattle.bus.specs.Devices.{busOk}
 use denote.Ref.{now}
@@ -13,7 +14,7 @@ use borrow.Author.Needs.{needs}
 use lib.ListN.{length}
 use mathlib.Core.Logic.{inl, inr, ⊎-elim}
 use mathlib.Core.Path.{_≡_, sym, _∙_}
-use Prim.Native.Nat.{_+_, _-_}
+use Prim.Native.Nat.{_+_, _-_, _<_}
 use Rattle.script.proofs.twin.run.Statement.{statement}
 use Rattle.script.proofs.twin.run.Tie as tie
 
@@ -38,11 +39,15 @@ returns-2 c =
     let e = c .before .before in
     rw (c .ran-to2 .ensures) (did-all twin (e .before .before .loop .inv .0) (inl (rw (e .line-end .ensures) at (c .before .if2 .taken))))
 
+-- the device that is asked stands on the bus
+who : (c : tie.After-known-told Inv-loop μ-loop) → c .before .asked2 .given .0 .0 < 8
+who c = asked-device _ _ _ _ _ (sym (c .before .asked2 .given .1) ∙ c .before .before .before .asked .ensures) .3
+
 mul-answer-of : tie.Need-mul-answer-of Inv-loop μ-loop
-mul-answer-of c = let w = rw (c .before .asked2 .given .1) at (c .before .before .before .asked .ensures) in omega (arith, w .3)
+mul-answer-of c = omega (arith, who c)
 
 element-copy-out-answer-of : tie.Need-element-copy-out-answer-of Inv-loop μ-loop
-element-copy-out-answer-of c = let w = rw (c .before .asked2 .given .1) at (c .before .before .before .asked .ensures) in w .3
+element-copy-out-answer-of c = who c
 
 request-judged-requires : tie.Need-request-judged-requires Inv-loop μ-loop
 request-judged-requires c κs = c .before .before .before .before .before .before .before .before .before .loop .inv .1
@@ -57,7 +62,7 @@ loop-again c =
     let more = turn (e .line-end .result) (n .next-number .result) (p .parse .result) (i .0) (e .line-end .ensures) (p .before .before .if2 .left) (n .next-number .ensures) (p .parse .ensures) in
     ⊎-elim
     (λ t.
-    let w = rw (t .1 .given .1) at (c .before .asked .ensures) in
+    let w = asked-device _ _ _ _ _ (sym (t .1 .given .1) ∙ c .before .asked .ensures) in
     let there = getD-there _ (fresh Pca9635 0) (l .bus .devices) (t .1 .given .0 .0) (omega (arith, w .3, i .4)) in
     let told = device-answers (l .bus) (t .1 .given .0 .0) (t .1 .given .0 .1 .0) _ _ _ (position-free (l .bus) (t .1 .given .0 .0) (sym (i .1) ∙ w .1) (w .2) (w .3)) there (t .4 .ensures .0) (t .4 .ensures .1) in
     let m = more _ _ _ (rw (w .0) told) (t .6 .ensures) in
