@@ -31,6 +31,7 @@ pub fn request_judged(ok: bool, bus: Bus, request: Request) -> Reply
     }
 }
 
+// The device that an event asks.
 fn asked_by(ok: bool, count: u8, event: Event) -> Asked
     ensures { λ r. ⌜ r ≡ askedBy ok count event ⌝ }
 {

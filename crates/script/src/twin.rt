@@ -58,7 +58,7 @@ fn ran_to(read: usize, wrote: usize, lines: u64, bus: Bus) -> Ran
 }
 
 // Answers the complete lines of input, one after the other, while out has room for an answer. The bus is judged once: no event changes
-// whether it is well formed.
+// whether it is well formed. A question is answered by the device that it asks, since a bus by value is copied wherever it is handed.
 pub fn run(first: State, input: &[u8], out: &mut [u8]) -> Ran
     ensures { λ r. ⌜ Runs twin first (now (input .entry)) (now (out .entry)) (now (out .exit)) (r .read) (r .wrote) (r .state) ⌝ }
 {
