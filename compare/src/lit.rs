@@ -92,8 +92,7 @@ pub fn log(chip: u64, mode: Mode, window: u64) -> Log {
     let mut events = Vec::new();
     for device in 0..MAX_DEVICES as u64 {
         match chip {
-            9635 => set_driver(&mut events, &mut random, chip, 16, device, mode),
-            9634 => set_driver(&mut events, &mut random, chip, 8, device, mode),
+            9635 | 9634 => set_driver(&mut events, &mut random, chip, device, mode),
             _ => set_blinker(&mut events, &mut random, chip, device, mode),
         }
     }
@@ -127,45 +126,56 @@ fn brightness(random: &mut Random) -> u8 {
     1 + random.below(255) as u8
 }
 
-/// All registers from MODE1 to LEDOUT, and the start. An asleep driver is put
-/// to sleep at the first tick of a blink period, or at the last.
-fn set_driver(
-    events: &mut Vec<Event>,
-    random: &mut Random,
-    chip: u64,
-    outputs: usize,
-    device: u64,
-    mode: Mode,
-) {
-    let address = 16 + device;
-    events.push(Event::Add { chip, address });
-    let asleep = matches!(mode, Mode::AsleepLit | Mode::AsleepUnlit);
-    let dmblnk = if mode == Mode::Blinking || asleep {
-        0x20
+fn outputs_of(chip: u64) -> u64 {
+    if chip == 9635 {
+        16
     } else {
-        0
-    };
+        8
+    }
+}
+
+fn is_asleep(mode: Mode) -> bool {
+    matches!(mode, Mode::AsleepLit | Mode::AsleepUnlit)
+}
+
+/// The control byte and all registers from MODE1 to LEDOUT, and GRPFREQ among
+/// them by itself.
+fn driver_bytes(random: &mut Random, outputs: usize, mode: Mode) -> (Vec<u8>, u8) {
+    let blinking = mode == Mode::Blinking || is_asleep(mode);
     let ledout = match mode {
         Mode::Off => 0x00,
         Mode::On => 0x55,
         Mode::Individual => 0xAA,
         _ => 0xFF,
     };
-    let mut bytes = vec![0x80, 0x00, 0x05 | dmblnk];
+    let mut bytes = vec![0x80, 0x00, if blinking { 0x25 } else { 0x05 }];
     bytes.extend((0..outputs).map(|_| brightness(random)));
     let grpfreq = random.below(256) as u8;
     bytes.extend([brightness(random), grpfreq]);
     bytes.extend(vec![ledout; outputs / 4]);
-    write_message(events, address, &bytes);
+    (bytes, grpfreq)
+}
+
+/// A driver's count. One that is to be put to sleep stands at the first tick
+/// of a blink period, which is lit, or at the last, which is not.
+fn driver_start(random: &mut Random, mode: Mode, grpfreq: u8) -> u64 {
     let period = (u64::from(grpfreq) + 1) << 20;
     let periods = random.below(LATEST / period) * period;
-    let ticks = match mode {
+    match mode {
         Mode::AsleepLit => periods,
         Mode::AsleepUnlit => periods + period - 1,
         _ => random.below(LATEST),
-    };
+    }
+}
+
+fn set_driver(events: &mut Vec<Event>, random: &mut Random, chip: u64, device: u64, mode: Mode) {
+    let address = 16 + device;
+    events.push(Event::Add { chip, address });
+    let (bytes, grpfreq) = driver_bytes(random, outputs_of(chip) as usize, mode);
+    write_message(events, address, &bytes);
+    let ticks = driver_start(random, mode, grpfreq);
     events.push(Event::Wait { device, ticks });
-    if asleep {
+    if is_asleep(mode) {
         write_message(events, address, &[0x00, 0x10]);
     }
 }
@@ -196,7 +206,7 @@ fn set_blinker(events: &mut Vec<Event>, random: &mut Random, chip: u64, device: 
 /// moved on after each round.
 fn ask_in_rounds(events: &mut Vec<Event>, random: &mut Random, chip: u64, window: u64) {
     let devices = MAX_DEVICES as u64;
-    let outputs = if chip == 9635 { 16 } else { 8 };
+    let outputs = outputs_of(chip);
     for question in 0..COUNTS as u64 {
         if question > 0 && question % (devices * outputs) == 0 {
             for device in 0..devices {
