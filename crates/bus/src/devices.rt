@@ -7,7 +7,7 @@ use protocol::Signal;
 ghost use mathlib.Core.Path.{_≡_};
 ghost use mathlib.Core.Bool.{cond};
 ghost use Prim.Native.Nat.{_≤_, _<_};
-ghost use lib.ListN.{getD, set};
+ghost use lib.ListN.{set};
 ghost use Rattle.chip.specs.declared.Chip.the-variants.{Pca9635};
 ghost use Rattle.basics.specs.Bits.{maskFirst};
 ghost use Rattle.device.specs.Reset.{fresh};

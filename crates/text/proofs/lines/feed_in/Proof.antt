@@ -2,7 +2,6 @@
 use Rattle.text.proofs.Scanning.{feed-next, feed-done}
 use Rattle.text.specs.laws.Lines.{feeds}
 use denote.Ref.{now}
-use native.Mathlib.Omega.{arith}
 use borrow.Author.Needs.{needs}
 use lib.ListN.{length, drop}
 use mathlib.Core.Logic.{inl, inr, ⊎-elim}

@@ -5,10 +5,10 @@ use Rattle.text.specs.laws.Lines.{feeds, unended, counted, few-lines}
 use denote.Ref.{now}
 use native.Mathlib.Omega.{arith}
 use borrow.Author.Needs.{needs}
-use lib.ListN.{length, drop, take, length-take}
+use lib.ListN.{length, drop, length-take}
 use mathlib.Core.Logic.{⊎-elim}
-use mathlib.Core.Path.{_≡_, sym, ap, _∙_}
-use Prim.Native.Nat.{ℕ, _+_, _-_, _≤_, _<_}
+use mathlib.Core.Path.{_≡_}
+use Prim.Native.Nat.{_+_, _-_, _≤_, _<_}
 use Rattle.text.proofs.lines.lines_in.Statement.{statement}
 use Rattle.text.proofs.lines.lines_in.Tie as tie
 
