@@ -3,7 +3,7 @@ use Prim.Native.Nat.{ℕ, _+_, _/_, _%_, _^_}
 use mathlib.Core.Bool.{Bool, not, _&&_, cond}
 use mathlib.Core.List.{List, [], _∷_}
 use lib.Dec.{eqb}
-use Rattle.basics.specs.Bits.{maskFirst}
+use Rattle.basics.specs.Bits.{bit, maskFirst}
 use Rattle.lamp.specs.Window.{countedTicks}
 use Rattle.lamp.specs.Driver.{driverMode, driverLit}
 use Rattle.lamp.specs.Blinker.{blinkerLit}
@@ -16,7 +16,7 @@ use Rattle.chip.specs.Kinds.{isDriver, outputsOf}
 use Rattle.chip.specs.Registers.{pwm0, grppwm, grpfreq, ledout0, psc0, blinkPwm0, ls0}
 use Rattle.chip.specs.declared.Chip.{Chip}
 use Rattle.chip.specs.declared.Chip.the-variants.{Pca9635, Pca9634, Pca9531, Pca9551}
-use Rattle.device.specs.Registers.{bit, held, inEffect, isAwake, isBlinking, isInverted, isTotemPole, outne}
+use Rattle.device.specs.Registers.{held, inEffect, isAwake, isBlinking, isInverted, isTotemPole, outne}
 use Rattle.device.specs.Wait.{isOwn}
 use Rattle.device.specs.declared.Device.{Device}
 

@@ -1,15 +1,11 @@
 -- A device's registers: as written, and as in effect (RULES, In effect).
-use Prim.Native.Nat.{ℕ, _/_, _%_, _^_}
+use Prim.Native.Nat.{ℕ, _%_}
 use mathlib.Core.Bool.{Bool, not, _&&_, cond}
-use lib.Dec.{eqb}
 use lib.ListN.{getD}
+use Rattle.basics.specs.Bits.{bit}
 use Rattle.chip.specs.Kinds.{isDriver}
 use Rattle.chip.specs.Registers.{mode1, mode2, pointed, isBuffered}
 use Rattle.device.specs.declared.Device.{Device}
-
--- bit k of a byte is set
-abbrev pub bit : ℕ → ℕ → Bool
-bit k byte = eqb (byte / 2 ^ k % 2) 1
 
 -- a register as written
 abbrev pub held : Device → ℕ → ℕ

@@ -3,7 +3,8 @@ use crate::Device;
 ghost use mathlib.Core.Path.{_≡_};
 ghost use Prim.Native.Nat.{_%_};
 ghost use lib.ListN.{getD, set};
-ghost use Rattle.device.specs.Registers.{bit, inEffect, isAwake};
+ghost use Rattle.basics.specs.Bits.{bit};
+ghost use Rattle.device.specs.Registers.{inEffect, isAwake};
 
 // Bit k of a byte is set.
 pub fn bit(k: u8, byte: u8) -> bool

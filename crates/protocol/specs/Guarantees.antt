@@ -8,12 +8,13 @@ use Prim.Native.Nat.{ℕ, _+_, _/_, _%_, _<_}
 use native.Mathlib.Omega.{arith}
 use lib.Dec.{eqb, ltb, leb}
 use borrow.Author.Tests.{eq-eqb, ne-eqb, ltb-true}
+use Rattle.basics.specs.Bits.{bit}
 use Rattle.basics.specs.laws.Logic.{and-right}
 use Rattle.basics.specs.laws.Tabulate.{getD-tabulate}
 use Rattle.chip.specs.Kinds.{isDriver, outputsOf}
 use Rattle.chip.specs.Registers.{mode1, pwm0, subadr1, allcalladr, inBuffer, isBuffered}
 use Rattle.chip.specs.laws.Registers.{registers-few}
-use Rattle.device.specs.Registers.{bit, held, inEffect, isAwake, isOch}
+use Rattle.device.specs.Registers.{held, inEffect, isAwake, isOch}
 use Rattle.device.specs.declared.Device.{Device}
 use Rattle.device.specs.declared.Phase.{Phase}
 use Rattle.device.specs.declared.Phase.the-variants as P

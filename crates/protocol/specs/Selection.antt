@@ -2,10 +2,11 @@
 use Prim.Native.Nat.{ℕ, _+_, _/_, _%_}
 use mathlib.Core.Bool.{Bool, _&&_, _||_, cond}
 use lib.Dec.{eqb}
+use Rattle.basics.specs.Bits.{bit}
 use Rattle.chip.specs.Kinds.{isDriver, outputsOf}
 use Rattle.chip.specs.Registers.{mode1, subadr1, allcalladr}
 use Rattle.device.specs.Fields.{withStage}
-use Rattle.device.specs.Registers.{bit, held}
+use Rattle.device.specs.Registers.{held}
 use Rattle.device.specs.declared.Device.{Device}
 use Rattle.device.specs.declared.Phase.{Phase}
 use Rattle.device.specs.declared.Phase.the-variants as P

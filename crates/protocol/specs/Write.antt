@@ -4,12 +4,13 @@ use mathlib.Core.Bool.{Bool, true, false, not, _&&_, cond}
 use mathlib.Core.List.{List}
 use lib.Dec.{eqb}
 use lib.ListN.{set}
+use Rattle.basics.specs.Bits.{bit}
 use Rattle.chip.specs.Kinds.{isDriver}
 use Rattle.chip.specs.Registers.{mode1, isBuffered}
 use Rattle.chip.specs.Control.{controlLegal, controlMoved}
 use Rattle.chip.specs.Values.{storedByte}
 use Rattle.device.specs.Fields.{withStage, withControl, withCount, withWritten, withEffective}
-use Rattle.device.specs.Registers.{bit, held, pointer, isSleep, isAwake, isOch}
+use Rattle.device.specs.Registers.{held, pointer, isSleep, isAwake, isOch}
 use Rattle.device.specs.declared.Device.{Device}
 use Rattle.device.specs.declared.Stage.{Stage}
 use Rattle.device.specs.declared.Stage.the-variants.{Unselected, Control, Data, Talking, ResetCall, ResetFirst, ResetBoth}

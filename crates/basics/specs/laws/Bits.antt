@@ -1,14 +1,19 @@
--- A set of positions as a number: what a loop over them starts with, what a turn adds, what it ends with.
-use Prim.Native.Nat.{ℕ, zero, suc, _+_, _*_, _^_, _≤_, _<_}
-use mathlib.Core.Path.{_≡_, refl}
-use mathlib.Core.Bool.{Bool, true, false, cond}
+-- A set of positions as a number: what a loop over them starts with, what a turn adds, what it ends with; and its bits.
+use Prim.Native.Nat.{ℕ, zero, suc, _+_, _*_, _/_, _%_, _^_, _≤_, _<_}
+use mathlib.Core.Path.{_≡_, refl, _∙_}
+use mathlib.Core.Bool.{Bool, true, false, _&&_, cond}
 use mathlib.Core.List.{List, [], _∷_}
 use native.Mathlib.Numerals.{add-one}
-use native.Mathlib.Nat.{le-of-suc-le-suc, mul-one, add-mul, pow-suc, mul-assoc, one-mul}
+use native.Mathlib.Nat.{le-of-suc-le-suc, mul-one, add-mul, pow-suc, pow-succ', mul-assoc, one-mul, zero-div, div-one, div-div-eq-div-mul}
 use native.Mathlib.Omega.{arith}
+use lib.Dec.{eqb, ltb, leb·suc-suc}
 use lib.ListN.{length, take, getD}
 use lib.Pow.{pow-mono}
-use Rattle.basics.specs.Bits.{mask, maskFirst}
+use lib.Seq.{length-take-le, getD-take}
+use borrow.Author.Tests.{ltb-true, lt-ltb, le-ltb}
+use Rattle.basics.specs.Bits.{bit, mask, maskFirst}
+use Rattle.basics.specs.laws.Division.{div-mod-of}
+use Rattle.basics.specs.laws.Logic.{tested, holds, fails, cond-below, cond-of}
 
 twice : (w i : ℕ) → (w + w) * 2 ^ i ≡ w * 2 ^ suc i
 twice w i = simp (add-mul, pow-suc, ← mul-assoc) (omega arith)
@@ -25,6 +30,23 @@ weight-most b r w e = rw e (cond-le b w)
 pub weight-more : (i w : ℕ) → w ≡ 2 ^ i → w + w ≡ 2 ^ (i + 1)
 weight-more i w e = rw (add-one, pow-suc, e) (omega arith)
 
+-- ---- a number's lowest bit, and the others
+
+halves : (b : Bool) (m : ℕ) → ((cond b 1 0 + 2 * m) / 2 ≡ m) × ((cond b 1 0 + 2 * m) % 2 ≡ cond b 1 0)
+halves b m = div-mod-of m (cond-below b (omega arith) (omega arith)) (omega arith)
+
+bit-lowest : (b : Bool) (m : ℕ) → bit 0 (cond b 1 0 + 2 * m) ≡ b
+bit-lowest b m = rw (div-one, halves b m .1) (go b)
+  where
+    go : (b : Bool) → eqb (cond b 1 0) 1 ≡ b
+    go true = refl
+    go false = refl
+
+bit-next : (b : Bool) (m i : ℕ) → bit (suc i) (cond b 1 0 + 2 * m) ≡ bit i m
+bit-next b m i = rw (pow-succ' 2 i, ← div-div-eq-div-mul, halves b m .0) refl
+
+-- ---- sets
+
 module _ {A : Type 0} (p : A → Bool) where
   mask-suc : (z : A) (w : ℕ) (l : List A) (i : ℕ) → i < length l → mask w p (take (suc i) l) ≡ mask w p (take i l) + cond (p (getD l i z)) (w * 2 ^ i) 0
   mask-suc z w [] i h = absurd (omega arith)
@@ -40,7 +62,8 @@ module _ {A : Type 0} (p : A → Bool) where
   unfolding maskFirst
   mask-none l = refl
 
-  mask-small : (l : List A) (i : ℕ) → maskFirst i p l < 2 ^ i
+  -- no bit past the positions
+  pub mask-small : (l : List A) (i : ℕ) → maskFirst i p l < 2 ^ i
   unfolding maskFirst
   mask-small l i = omega (arith, mask-bound 1 l i, one-mul (2 ^ i))
 
@@ -61,3 +84,22 @@ module _ {A : Type 0} (p : A → Bool) where
 
   pub mask-done : (l : List A) (m i n : ℕ) → i ≤ n → n ≤ i → m ≡ maskFirst i p l → m ≡ maskFirst n p l
   mask-done l m i n h k e = let q : n ≡ i = omega arith in rw q e
+
+  mask-twice : (w : ℕ) (l : List A) → mask (w + w) p l ≡ 2 * mask w p l
+  mask-twice w [] = refl
+  mask-twice w (x ∷ l) = omega (arith, mask-twice (w + w) l, cond-of (λ (v : ℕ). v + v) (p x) w 0)
+
+  -- bit i is set exactly when there is an element i and p holds of it
+  pub mask-bit : (z : A) (l : List A) (i : ℕ) → bit i (mask 1 p l) ≡ (ltb i (length l) && p (getD l i z))
+  mask-bit z [] i = rw (zero-div, le-ltb i 0 (omega arith)) refl
+  mask-bit z (x ∷ l) zero = rw (mask-twice 1 l, lt-ltb 0 (length (x ∷ l)) (omega arith)) (bit-lowest (p x) (mask 1 p l))
+  mask-bit z (x ∷ l) (suc i) = rw (mask-twice 1 l, leb·suc-suc (suc i) (length l)) (bit-next (p x) (mask 1 p l) i ∙ mask-bit z l i)
+
+  pub first-bit : (z : A) (l : List A) (n i : ℕ) → n ≤ length l → bit i (maskFirst n p l) ≡ (ltb i n && p (getD l i z))
+  unfolding maskFirst
+  first-bit z l n i h =
+      mask-bit z (take n l) i
+      ∙ rw (length-take-le n l h) (elim (tested (ltb i n)) [
+        | holds e ↦ rw (e, getD-take n l i z (ltb-true i n e)) refl
+        | fails e ↦ rw e refl
+      ])

@@ -6,6 +6,7 @@ use native.Mathlib.Omega.{arith}
 use lib.Dec.{eqb}
 use lib.ListN.{set, replicate}
 use borrow.Author.Tests.{eqb-true, eq-eqb, ne-eqb, le-leb, lt-leb, lt-ltb}
+use Rattle.basics.specs.Bits.{bit}
 use Rattle.basics.specs.First.{allFirst}
 use Rattle.basics.specs.Tabulate.{tabulate}
 use Rattle.basics.specs.laws.Table.{at}
@@ -20,7 +21,7 @@ use Rattle.chip.specs.Promises.{reset-legal}
 use Rattle.chip.specs.declared.Chip.{Chip}
 use Rattle.chip.specs.declared.Chip.the-variants.{Pca9635, Pca9634, Pca9531, Pca9551}
 use Rattle.device.specs.Fields.{withCount, withWritten, withEffective}
-use Rattle.device.specs.Registers.{bit, inEffect, isAwake, isBlinking}
+use Rattle.device.specs.Registers.{inEffect, isAwake, isBlinking}
 use Rattle.device.specs.Reset.{fresh}
 use Rattle.device.specs.Output.{pairOf, ledoutOf}
 use Rattle.device.specs.laws.WellFormed.{well}
