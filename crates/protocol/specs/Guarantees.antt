@@ -1,7 +1,7 @@
 -- The failures of earlier versions cannot recur: a shared call address is heard; nothing of a message takes effect before its STOP while OCH is 0; and at the STOP all of it does, unless that STOP resets the driver.
 -- The third failure, lit time by rounding, is met by lit's answers being the tick-by-tick sum (crate `duty`).
 use mathlib.Core.Path.{_≡_, refl, _∙_}
-use mathlib.Core.Bool.{Bool, true, false, _||_, cond, or-true, true≢false}
+use mathlib.Core.Bool.{Bool, true, false, cond, or-true, true≢false}
 use mathlib.Core.Logic.{_⊎_, inl, inr}
 use mathlib.Core.List.{List, [], _∷_}
 use Prim.Native.Nat.{ℕ, _+_, _/_, _%_, _<_}
@@ -18,7 +18,7 @@ use Rattle.device.specs.Registers.{held, inEffect, isAwake, isOch}
 use Rattle.device.specs.declared.Device.{Device}
 use Rattle.device.specs.declared.Phase.{Phase}
 use Rattle.device.specs.declared.Phase.the-variants as P
-use Rattle.device.specs.declared.Stage.the-variants.{Unselected, Control, Talking}
+use Rattle.device.specs.declared.Stage.the-variants.{Control, Talking}
 use Rattle.protocol.specs.Selection.{ownAddress, sharedBy, answersShared, answers, stageAfterAddress}
 use Rattle.protocol.specs.Put.{isSelected, acksTo}
 use Rattle.protocol.specs.Stop.{committedAt, committed, afterCommit, tookReset, afterStop}
@@ -42,18 +42,25 @@ shared-answered d k r address (inr (inl x)) h = rw (rw (x .0, x .1) at h, or-tru
 shared-answered d k r address (inr (inr (inl x))) h = rw (rw (x .0, x .1) at h, or-true) refl
 shared-answered d k r address (inr (inr (inr x))) h = rw (rw (x .0, x .1) at h, or-true) refl
 
--- a driver acknowledges each shared address that MODE1 lets it answer, but for address 3 (06h, 07h: the software reset call's), whatever its own address is, awake or asleep, for reads and writes alike
-pub shared-call-heard : (d : Device) (k r byte : ℕ) → isDriver (d .chip) ≡ true → Lets (outputsOf (d .chip)) k r → bit k (held d mode1) ≡ true → held d r / 2 ≡ byte / 2 → (byte / 2 ≡ 3 → ⊥) → acksTo P.Address byte d ≡ true
-unfolding acksTo stageAfterAddress answers
-shared-call-heard d k r byte driver lets on e other =
-    rw (ne-eqb (byte / 2) 3 other, driver, shared-answered d k r (byte / 2) lets (rw (on, eq-eqb (held d r / 2) (byte / 2) e) refl))
-    (go (eqb (ownAddress d) (byte / 2)) (eqb (byte % 2) 0))
+answered-heard : (d : Device) (byte : ℕ) → answers d (byte / 2) ≡ true → (byte / 2 ≡ 3 → ⊥) → acksTo P.Address byte d ≡ true
+unfolding acksTo stageAfterAddress
+answered-heard d byte e other = rw (ne-eqb (byte / 2) 3 other, e) (go (eqb (byte % 2) 0))
   where
-    go : (own even : Bool) → isSelected (cond (own || true) (cond even Control Talking) Unselected) ≡ true
-    go true true = refl
-    go true false = refl
-    go false true = refl
-    go false false = refl
+    go : (even : Bool) → isSelected (cond even Control Talking) ≡ true
+    go true = refl
+    go false = refl
+
+-- a device acknowledges its own address, but for address 3 (06h, 07h: the software reset call's), for reads and writes alike
+pub own-address-heard : (d : Device) (byte : ℕ) → ownAddress d ≡ byte / 2 → (byte / 2 ≡ 3 → ⊥) → acksTo P.Address byte d ≡ true
+unfolding answers
+own-address-heard d byte e = answered-heard d byte (rw (eq-eqb (ownAddress d) (byte / 2) e) refl)
+
+-- a driver acknowledges each shared address that MODE1 lets it answer, but for address 3, whatever its own address is, awake or asleep, for reads and writes alike
+pub shared-call-heard : (d : Device) (k r byte : ℕ) → isDriver (d .chip) ≡ true → Lets (outputsOf (d .chip)) k r → bit k (held d mode1) ≡ true → held d r / 2 ≡ byte / 2 → (byte / 2 ≡ 3 → ⊥) → acksTo P.Address byte d ≡ true
+unfolding answers
+shared-call-heard d k r byte driver lets on e =
+    answered-heard d byte
+    (rw (driver, shared-answered d k r (byte / 2) lets (rw (on, eq-eqb (held d r / 2) (byte / 2) e) refl), or-true) refl)
 
 -- ---- nothing before STOP
 
