@@ -438,7 +438,18 @@ impl Generator {
             .collect()
     }
 
+    /// The positions of the devices that answer a 7-bit address other than 3.
+    fn positions_answering(&self, address: u8) -> Vec<usize> {
+        let positions = 0..self.bus.devices.len();
+        positions
+            .filter(|&position| self.bus.devices[position].chip.answers(address))
+            .collect()
+    }
+
     fn plan_first_boards(&mut self) {
+        if self.random.chance(10) {
+            return self.plan_boards_at_one_address();
+        }
         for _ in 0..1 + self.random.below(MAX_DEVICES as u64) {
             self.plan_add();
         }
@@ -452,6 +463,21 @@ impl Generator {
             *self.random.pick(&DRIVER_ADDRESSES)
         };
         self.push(Event::Add { chip, address });
+    }
+
+    /// A full bus of boards that all answer one address: drivers alone, or
+    /// boards of any kind.
+    fn plan_boards_at_one_address(&mut self) {
+        let pins = self.random.below(8);
+        let chips = *self.random.pick(&[&CHIPS[..2], &CHIPS]);
+        for _ in 0..MAX_DEVICES {
+            let chip = *self.random.pick(chips);
+            let address = match chip {
+                9531 | 9551 => pins,
+                _ => 96 + pins,
+            };
+            self.push(Event::Add { chip, address });
+        }
     }
 
     fn plan_something(&mut self) {
@@ -469,7 +495,7 @@ impl Generator {
         if self.room(position) < 600 && self.random.chance(60) {
             return self.plan_restart(position);
         }
-        match self.random.below(200) {
+        match self.random.below(210) {
             0..=39 => self.plan_write(position),
             40..=54 => self.plan_pending(position),
             55..=84 => self.plan_read(position),
@@ -487,6 +513,7 @@ impl Generator {
                 device: position as u64,
             }),
             194..=196 => self.plan_boards(),
+            197..=206 => self.plan_shared_write(),
             _ => self.plan_set_up(position),
         }
     }
@@ -587,6 +614,30 @@ impl Generator {
         self.ask_about(position, 30);
         self.end_message();
         self.ask_about(position, 60);
+    }
+
+    /// A write that as many boards as possible hear. Its control byte suits
+    /// one of them and may be illegal for others; a reset may take that one
+    /// out of the message.
+    fn plan_shared_write(&mut self) {
+        let address = (0..128)
+            .filter(|&address| address != 3)
+            .max_by_key(|&address| self.positions_answering(address).len())
+            .unwrap();
+        let hearing = self.positions_answering(address);
+        let position = *self.random.pick(&hearing);
+        let control = self.control_byte(position);
+        self.push(Event::Start);
+        self.push_put(address << 1);
+        self.push_put(control);
+        self.push_data(1);
+        if self.random.chance(30) {
+            self.push(Event::Reset {
+                device: position as u64,
+            });
+        }
+        self.push_data(2);
+        self.end_message();
     }
 
     /// Registers of one output written, with questions about it before and
@@ -832,6 +883,10 @@ impl Generator {
         }
         for &byte in bytes {
             self.push_put(byte);
+            if self.random.chance(25) {
+                let device = self.position() as u64;
+                self.push(Event::Reset { device });
+            }
         }
         if bytes == [0x06, 0xA5, 0x5A] {
             self.plan_after_reset_call();
@@ -1270,6 +1325,60 @@ mod tests {
             }
         }
         assert!(reached > 100);
+    }
+
+    /// The messages of a log, each the bytes that the master put and the sets
+    /// of the devices that acknowledged them.
+    fn messages(log: &[u8]) -> Vec<Vec<(u64, u64)>> {
+        let mut bus = Bus::new();
+        let mut messages = Vec::new();
+        for line in text::lines(log) {
+            let answer = text::answer(&mut bus, line);
+            match (text::parse(line), answer) {
+                (Some(Event::Start), _) => messages.push(Vec::new()),
+                (Some(Event::Put { byte }), (0, set)) => {
+                    messages.last_mut().unwrap().push((byte, set))
+                }
+                _ => {}
+            }
+        }
+        messages
+    }
+
+    fn many_messages() -> impl Iterator<Item = Vec<(u64, u64)>> {
+        (1..100).flat_map(|seed| messages(&log(seed, 1000, 5)))
+    }
+
+    /// The devices that leave a message which others still hear.
+    fn leavers(message: &[(u64, u64)]) -> u64 {
+        let sets = message.windows(2).map(|pair| (pair[0].1, pair[1].1));
+        sets.filter(|&(_, after)| after != 0)
+            .fold(0, |left, (before, after)| left | before & !after)
+    }
+
+    #[test]
+    fn devices_acknowledge_together() {
+        let sets: BTreeSet<u64> = many_messages().flatten().map(|(_, set)| set).collect();
+        let shared = sets.iter().filter(|set| set.count_ones() > 1);
+        assert!(shared.count() > 100);
+        assert!(sets.contains(&255));
+    }
+
+    /// Each at an illegal control byte and by a reset, some by a reset in the
+    /// reset call.
+    #[test]
+    fn devices_leave_messages_that_others_hear() {
+        let (mut at_control, mut later, mut in_reset_call) = (0, 0, 0);
+        for message in many_messages().filter(|message| message.len() > 1) {
+            if message[0].0 == 0x06 {
+                in_reset_call |= leavers(&message);
+            } else {
+                at_control |= leavers(&message[..2]);
+                later |= leavers(&message[1..]);
+            }
+        }
+        assert_eq!([at_control, later], [255, 255]);
+        assert_ne!(in_reset_call, 0);
     }
 
     #[test]

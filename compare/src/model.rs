@@ -203,6 +203,8 @@ impl Bus {
         }
     }
 
+    /// The value has "bit i set exactly when the device at position i
+    /// acknowledged".
     fn put(&mut self, byte: u64) -> Answer {
         let in_turn = matches!(self.message, Message::Address | Message::Write);
         refuse_if(&[(OUT_OF_TURN, !in_turn), (OUT_OF_RANGE, byte > 255)])?;
@@ -216,15 +218,16 @@ impl Bus {
                 Message::Write
             };
         }
-        let mut acknowledged = false;
-        for device in &mut self.devices {
-            acknowledged |= if addressing {
+        let mut acknowledged = 0;
+        for (position, device) in self.devices.iter_mut().enumerate() {
+            let acknowledges = if addressing {
                 device.take_address(byte)
             } else {
                 device.take_byte(byte)
             };
+            acknowledged |= (acknowledges as u64) << position;
         }
-        Ok(acknowledged as u64)
+        Ok(acknowledged)
     }
 
     /// "Value is the bitwise AND of all devices talking, 255 if none."
@@ -404,7 +407,7 @@ impl Chip {
     }
 
     /// Whether the device answers a 7-bit address other than 3.
-    fn answers(&self, address: u8) -> bool {
+    pub fn answers(&self, address: u8) -> bool {
         match self {
             Chip::Driver(driver) => driver.answers(address),
             Chip::Blinker(_) => address == self.own_address(),
@@ -1231,6 +1234,88 @@ mod tests {
             };
             assert_eq!(chip.lit_ticks(3, 9999), expected);
         }
+    }
+
+    /// A bus of fresh boards, each a kind and an address.
+    fn bus_of(boards: &[(u64, u64)]) -> Bus {
+        let mut bus = Bus::new();
+        for &(chip, address) in boards {
+            assert_eq!(bus.apply(Event::Add { chip, address }).0, 0);
+        }
+        bus
+    }
+
+    /// The values of accepted puts.
+    fn put_all(bus: &mut Bus, bytes: &[u64]) -> Vec<u64> {
+        let put = |&byte| bus.put(byte).unwrap();
+        bytes.iter().map(put).collect()
+    }
+
+    /// START, then the values of the puts.
+    fn write(bus: &mut Bus, bytes: &[u64]) -> Vec<u64> {
+        bus.apply(Event::Start);
+        put_all(bus, bytes)
+    }
+
+    /// Drivers at positions 1, 4 and 7: 2 + 16 + 128 = 146.
+    const DRIVERS_AMONG_BLINKERS: [(u64, u64); 8] = [
+        (9531, 0),
+        (9635, 21),
+        (9551, 1),
+        (9531, 2),
+        (9634, 22),
+        (9551, 3),
+        (9531, 4),
+        (9635, 23),
+    ];
+
+    #[test]
+    fn eight_drivers_acknowledge_the_all_call() {
+        let boards = [(9635, 21), (9634, 22)].repeat(4);
+        let mut bus = bus_of(&boards);
+        assert_eq!(write(&mut bus, &[0xE0, 0x80, 0x01]), [255; 3]);
+        assert_eq!(write(&mut bus, &[0xE1]), [255]);
+    }
+
+    #[test]
+    fn drivers_acknowledge_among_blinkers() {
+        let mut bus = bus_of(&DRIVERS_AMONG_BLINKERS);
+        assert_eq!(write(&mut bus, &[0xE0, 0x02, 5]), [146; 3]);
+        assert_eq!(write(&mut bus, &[0x06, 0xA5, 0x5A, 0]), [146, 146, 146, 0]);
+        // Position 4 without ALLCALL.
+        assert_eq!(write(&mut bus, &[44, 0x00, 0x00]), [16; 3]);
+        assert_eq!(write(&mut bus, &[0xE0]), [130]);
+        assert_eq!(write(&mut bus, &[0x06]), [146]);
+    }
+
+    /// A 9634 and a 9531 at address 97, positions 2 and 5: 4 + 32 = 36.
+    #[test]
+    fn a_control_byte_may_suit_one_of_two_boards() {
+        let boards = [21, 22, 97, 23, 24].map(|address| (9634, address));
+        let mut bus = bus_of(&[&boards[..], &[(9531, 1)]].concat());
+        assert_eq!(write(&mut bus, &[194, 0x11, 0, 0]), [36; 4]);
+        assert_eq!(write(&mut bus, &[194, 0x12, 0, 0]), [36, 32, 32, 32]);
+        assert_eq!(write(&mut bus, &[194, 0x80, 0, 0]), [36, 4, 4, 4]);
+        assert_eq!(write(&mut bus, &[194, 0x17, 0, 0]), [36, 0, 0, 0]);
+        assert_eq!(write(&mut bus, &[195]), [36]);
+    }
+
+    #[test]
+    fn a_reset_ends_the_acknowledges_of_one_board() {
+        let mut bus = bus_of(&DRIVERS_AMONG_BLINKERS);
+        for bytes in [[0xE0, 0x02], [0x06, 0xA5]] {
+            assert_eq!(write(&mut bus, &bytes), [146; 2]);
+            bus.apply(Event::Reset { device: 7 });
+            assert_eq!(put_all(&mut bus, &[0x5A]), [18]);
+        }
+    }
+
+    #[test]
+    fn nobody_acknowledges() {
+        let mut bus = bus_of(&DRIVERS_AMONG_BLINKERS);
+        assert_eq!(write(&mut bus, &[0x50, 0x00, 0x01]), [0; 3]);
+        assert_eq!(write(&mut bus, &[0x07]), [0]);
+        assert_eq!(write(&mut Bus::new(), &[0x06, 0xA5]), [0; 2]);
     }
 
     #[test]

@@ -1,5 +1,8 @@
 /* The lamp twin as a static library: the answers to a whole log of bus events, from an empty bus.
  *
+ * `./lamptwin --help` lists the lines of a log. An answer line is 'n=LINE code=CODE value=VALUE'; a put's value has bit i set
+ * exactly when the device at position i acknowledged.
+ *
  * Link with liblamptwin_c.a (made by `./build library`). Nothing checks these declarations against the source,
  * crates/lamptwin_c/src/lib.rt; the tests under library/ do. No call keeps a pointer, allocates, or depends on an earlier call. */
 #ifndef LAMPTWIN_H

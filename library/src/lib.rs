@@ -1,6 +1,10 @@
 //! The lamp twin for Rust: the answers to a whole log of bus events, from an
 //! empty bus. The work is done by the proved static library; this wrapper
 //! tests what its declaration cannot say.
+//!
+//! `./lamptwin --help` lists the lines of a log. An answer line is
+//! `n=LINE code=CODE value=VALUE`; a put's value has bit i set exactly when
+//! the device at position i acknowledged.
 
 use std::fmt;
 

@@ -200,7 +200,7 @@ fn mode1_under_each_option() {
     }
 }
 
-/// Which of these bytes is acknowledged, each as the next one after the log.
+/// Who acknowledges each of these bytes, as the next one after the log: bit i for position i.
 fn acks(log: &Log, bytes: &[u8]) -> Vec<u64> {
     let ack = |&byte| log.clone().put(byte).value("put");
     bytes.iter().map(ack).collect()
@@ -287,22 +287,21 @@ fn after_the_call(log: Log) -> Vec<u8> {
 const RESET: [u8; 5] = [0x91, 0x05, 0x00, 0x00, 0x40];
 const KEPT: [u8; 5] = [0x40; 5];
 
-/// 000 and 004, section 7.6.
+/// 000 and 004, section 7.6: both drivers acknowledge, at positions 0 and 1.
 #[test]
 fn software_reset_call() {
-    let rows: [(&[u8], u64, [u8; 5]); 7] = [
-        (&[0x06, 0xa5, 0x5a], 3, RESET),
-        (&[0x06, 0xa5, 0x5a, 0x00], 3, KEPT),
-        (&[0x06, 0xa5, 0x5a, 0x5a], 3, KEPT),
-        (&[0x06, 0xa5, 0xa5], 2, KEPT),
-        (&[0x06, 0x5a, 0xa5], 1, KEPT),
-        (&[0x06, 0xa5, 0x00, 0x5a], 2, KEPT),
-        (&[0x06, 0xa5], 2, KEPT),
+    let rows: [(&[u8], &[u64], [u8; 5]); 7] = [
+        (&[0x06, 0xa5, 0x5a], &[3, 3, 3], RESET),
+        (&[0x06, 0xa5, 0x5a, 0x00], &[3, 3, 3, 0], KEPT),
+        (&[0x06, 0xa5, 0x5a, 0x5a], &[3, 3, 3, 0], KEPT),
+        (&[0x06, 0xa5, 0xa5], &[3, 3, 0], KEPT),
+        (&[0x06, 0x5a, 0xa5], &[3, 0, 0], KEPT),
+        (&[0x06, 0xa5, 0x00, 0x5a], &[3, 3, 0, 0], KEPT),
+        (&[0x06, 0xa5], &[3, 3], KEPT),
     ];
     for (call, acknowledged, registers) in rows {
         let log = three_chips().start().puts(call).stop();
-        let acks = log.last("put", call.len());
-        assert_eq!(acks.iter().sum::<u64>(), acknowledged, "{call:02x?}");
+        assert_eq!(log.last("put", call.len()), acknowledged, "{call:02x?}");
         assert_eq!(after_the_call(log), registers, "{call:02x?}");
     }
 }
@@ -335,7 +334,7 @@ fn four_drivers_lit(log: Log) -> Vec<u64> {
 #[test]
 fn all_call() {
     let started = four_drivers(0x0d).start();
-    assert_eq!(acks(&started, &[0xaa, 0xab, 0xe0]), [1, 1, 0]);
+    assert_eq!(acks(&started, &[0xaa, 0xab, 0xe0]), [15, 15, 0]);
 
     let (off, on) = ([0, 0, 0], [1, 1, 0]);
     // after AA 94, after 55, after a repeated START or a STOP

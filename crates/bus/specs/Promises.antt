@@ -1,31 +1,40 @@
 -- Promises on every event, for any bus (demand 1): the code is the least number whose condition holds; a refused event has value 0 and leaves the bus as it was;
 -- a well-formed bus stays well formed, and is never refused for its shape.
 use mathlib.Core.Path.{_≡_, refl, sym, ap, _∙_}
-use mathlib.Core.Bool.{Bool, true, false, not, true≢false}
+use mathlib.Core.Bool.{Bool, true, false, not, _&&_, true≢false}
 use mathlib.Core.Logic.{_⊎_, inl, inr}
 use mathlib.Core.List.{List, [], _∷_}
-use Prim.Native.Nat.{ℕ}
+use Prim.Native.Nat.{ℕ, _/_, _^_, _≤_, _<_}
 use native.Mathlib.Omega.{arith}
-use lib.ListN.{take}
-use borrow.Author.Tests.{not-false}
+use lib.Dec.{ltb}
+use lib.ListN.{length, take}
+use borrow.Author.Tests.{not-false, lt-ltb}
 use Rattle.basics.specs.laws.Logic.{holds, fails, tested}
 use Rattle.lamp.specs.Duration.{amount}
 use Rattle.lamp.specs.declared.Duration.{Duration}
-use Rattle.basics.specs.Bits.{mask, maskFirst}
+use Rattle.basics.specs.Bits.{bit, maskFirst}
+use Rattle.basics.specs.laws.Bits.{mask-small, first-bit}
+use Rattle.chip.specs.Kinds.{isDriver, outputsOf}
+use Rattle.chip.specs.Registers.{mode1}
+use Rattle.device.specs.Registers.{held}
 use Rattle.device.specs.Start.{commonStartOf}
 use Rattle.device.specs.Wait.{isOwn}
+use Rattle.device.specs.declared.Device.{Device}
+use Rattle.device.specs.declared.Phase.the-variants.{Address}
+use Rattle.protocol.specs.Selection.{ownAddress}
 use Rattle.protocol.specs.Put.{acksTo}
+use Rattle.protocol.specs.Guarantees.{Lets, own-address-heard, shared-call-heard}
 use Rattle.refusals.specs.Refusals.{codeOf}
 use Rattle.refusals.specs.laws.Refusals.{Exact}
 use Rattle.basics.specs.First.{allFirst}
 use Rattle.bus.specs.Devices.{busOk, deviceAt, emptyBus}
 use Rattle.bus.specs.Replies.{refusedWith, doneWith}
+use Rattle.bus.specs.Signals.{ackSet}
 use Rattle.bus.specs.Place.{blinkRefusals, blinkReply}
 use Rattle.bus.specs.Units.{isForeign, waitForRefusals, waitForReply, litForRefusals, litForReply}
 use Rattle.bus.specs.Events.{stepReply, stepRefusals, stepDone, putReply, waitReply, litReply, requestReply, eventNumbered, numberedReply, runBus}
 use Rattle.basics.specs.laws.First.{empty-none, none-empty}
 use Rattle.bus.specs.laws.Replies.{answer-bus, answer-code, answer-exact, answer-done, answer-refused}
-use Rattle.bus.specs.laws.Signals.{value-none}
 use Rattle.bus.specs.laws.Units.{own-wait, own-lit}
 use Rattle.bus.specs.laws.WellFormed.{step-positive, shape-holds, done-shape, done-code}
 use Rattle.bus.specs.declared.Bus.{Bus}
@@ -114,16 +123,48 @@ module _ (b : Bus) (dev : ℕ) (w : Duration) where
 abbrev pub nobodyAcks : Bus → ℕ → Bool
 nobodyAcks b byte = allFirst (b .count) (λ d. not (acksTo (b .phase) byte d)) (b .devices)
 
+value-is : (b : Bus) (byte : ℕ) → putReply b byte .code ≡ 0 → putReply b byte .value ≡ ackSet b byte
+unfolding stepReply stepRefusals stepDone
+value-is b byte c =
+    ap (λ (r : Reply). r .value) (answer-done (stepRefusals b (Signal (Put byte))) b (stepDone b (Signal (Put byte))) refl refl c .1)
+
 -- an accepted put's value is 0 exactly when nobody acknowledges
 pub put-unheard : (b : Bus) (byte : ℕ) → putReply b byte .code ≡ 0 → (putReply b byte .value ≡ 0 → nobodyAcks b byte ≡ true) × (nobodyAcks b byte ≡ true → putReply b byte .value ≡ 0)
-unfolding stepReply stepRefusals stepDone allFirst maskFirst
+unfolding allFirst maskFirst
 put-unheard b byte c =
-    let value = ap (λ (r : Reply). r .value) (answer-done (stepRefusals b (Signal (Put byte))) b (stepDone b (Signal (Put byte))) refl refl c .1) in
     let p = acksTo (b .phase) byte in
     let ds = take (b .count) (b .devices) in (
-      λ z. empty-none 1 p ds (omega arith) (value-none (mask 1 p ds) (sym value ∙ z)),
-      λ n. value ∙ rw (none-empty 1 p ds n) refl,
+      λ z. empty-none 1 p ds (omega arith) (sym (value-is b byte c) ∙ z),
+      λ n. value-is b byte c ∙ none-empty 1 p ds n,
     )
+
+-- bit i of it is set exactly when i is below the count and the device at i acknowledges
+pub put-set : (b : Bus) (byte i : ℕ) → b .count ≤ length (b .devices) → putReply b byte .code ≡ 0 → bit i (putReply b byte .value) ≡ (ltb i (b .count) && acksTo (b .phase) byte (deviceAt b i))
+put-set b byte i wide c =
+    rw (value-is b byte c) (first-bit (acksTo (b .phase) byte) _ (b .devices) (b .count) i wide)
+
+-- and no higher bit is
+pub put-small : (b : Bus) (byte : ℕ) → putReply b byte .code ≡ 0 → putReply b byte .value < 2 ^ b .count
+put-small b byte c = rw (value-is b byte c) (mask-small (acksTo (b .phase) byte) (b .devices) (b .count))
+
+-- an address byte is for the device: it has the device's own address, or one that MODE1 lets a driver share
+abbrev pub Addressed : Device → ℕ → Type 0
+Addressed d byte =
+    (ownAddress d ≡ byte / 2)
+    ⊎ ((isDriver (d .chip) ≡ true) × (k : ℕ) × (r : ℕ) × Lets (outputsOf (d .chip)) k r × (bit k (held d mode1) ≡ true) × (held d r / 2 ≡ byte / 2))
+
+addressed-heard : (d : Device) (byte : ℕ) → (byte / 2 ≡ 3 → ⊥) → Addressed d byte → acksTo Address byte d ≡ true
+addressed-heard d byte other (inl own) = own-address-heard d byte own other
+addressed-heard d byte other (inr h) = shared-call-heard d (h .1) (h .2) byte (h .0) (h .3) (h .4) (h .5) other
+
+-- an address that two boards answer shows both, but for address 3, the software reset call's
+pub both-shown : (b : Bus) (byte i j : ℕ) → b .count ≤ length (b .devices) → putReply b byte .code ≡ 0 → b .phase ≡ Address → (byte / 2 ≡ 3 → ⊥) → (i < b .count) × Addressed (deviceAt b i) byte → (j < b .count) × Addressed (deviceAt b j) byte → (bit i (putReply b byte .value) ≡ true) × (bit j (putReply b byte .value) ≡ true)
+both-shown b byte i j wide c address other h k = (shown i h, shown j k)
+  where
+    shown : (i : ℕ) → (i < b .count) × Addressed (deviceAt b i) byte → bit i (putReply b byte .value) ≡ true
+    shown i h =
+        put-set b byte i wide c
+        ∙ rw (lt-ltb i (b .count) (h .0), address, addressed-heard (deviceAt b i) byte other (h .1)) refl
 
 -- ---- well-formedness
 

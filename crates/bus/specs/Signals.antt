@@ -1,6 +1,6 @@
 -- START, STOP, a put and a get, as events: the numbers that they come with may be too large.
 use Prim.Native.Nat.{ℕ}
-use mathlib.Core.Bool.{Bool, false, not, cond}
+use mathlib.Core.Bool.{Bool, false, not}
 use mathlib.Core.List.{List, [], _∷_}
 use lib.Dec.{ltb, eqb}
 use Rattle.basics.specs.Bits.{maskFirst}
@@ -35,17 +35,13 @@ abbrev pub signalRefusals : Bus → SignalEvent → List Refusal
 signalRefusals b s =
     refuse 4 (not (busOk b)) ∷ refuse 5 (not (inTurn (b .phase) (signalOf s))) ∷ refuse 7 (isTooLarge s) ∷ []
 
--- the positions of the devices that acknowledge, as a set
+-- the positions of the devices that acknowledge, as a set: bit i for the device at position i
 abbrev pub ackSet : Bus → ℕ → ℕ
 ackSet b byte = maskFirst (b .count) (acksTo (b .phase) byte) (b .devices)
 
--- a put's value: 1 if any device acknowledges, else 0
-abbrev pub putValue : ℕ → ℕ
-putValue set = cond (eqb set 0) 0 1
-
--- a get's value: the bitwise AND of all devices talking
+-- a put's value: the set of those that acknowledge; a get's: the bitwise AND of all devices talking
 abbrev pub signalValue : Bus → SignalEvent → ℕ
 signalValue b Start = 0
 signalValue b Stop = 0
-signalValue b (Put byte) = putValue (ackSet b byte)
+signalValue b (Put byte) = ackSet b byte
 signalValue b (Get ack) = andFirst (b .count) talkOf (b .devices)

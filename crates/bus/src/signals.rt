@@ -12,7 +12,7 @@ ghost use Rattle.protocol.specs.Signals.{inTurn};
 ghost use Rattle.refusals.specs.Refusals.{codeOf};
 ghost use Rattle.bus.specs.declared.Event.the-variants as E;
 ghost use Rattle.bus.specs.Devices.{busOk};
-ghost use Rattle.bus.specs.Signals.{signalOf, isTooLarge, signalRefusals, putValue, signalValue};
+ghost use Rattle.bus.specs.Signals.{signalOf, isTooLarge, signalRefusals, signalValue};
 ghost use Rattle.bus.specs.Events.{stepReply};
 
 // Whether it is in turn does not depend on the number that comes with it.
@@ -60,13 +60,6 @@ fn signal_code(ok: bool, bus: Bus, event: SignalEvent) -> u64
     or_refused(code, 7, is_too_large(event))
 }
 
-// 1 if any device acknowledges.
-fn put_value(set: u64) -> u64
-    ensures { λ r. ⌜ r ≡ putValue set ⌝ }
-{
-    if set == 0 { 0 } else { 1 }
-}
-
 fn signal_value(bus: Bus, event: SignalEvent) -> u64
     requires { ⌜ (bus .count ≤ 8) × (isTooLarge event ≡ false) ⌝ }
     ensures { λ r. ⌜ r ≡ signalValue bus event ⌝ }
@@ -76,12 +69,9 @@ fn signal_value(bus: Bus, event: SignalEvent) -> u64
     match event {
         SignalEvent::Start => 0,
         SignalEvent::Stop => 0,
-        SignalEvent::Put(byte) => put_value(crate::devices::ack_set(
-            devices,
-            bus.count as usize,
-            phase,
-            byte as u8,
-        )),
+        SignalEvent::Put(byte) => {
+            crate::devices::ack_set(devices, bus.count as usize, phase, byte as u8)
+        }
         SignalEvent::Get(_) => crate::devices::talk(devices, bus.count as usize) as u64,
     }
 }

@@ -14,7 +14,7 @@ use Rattle.protocol.specs.Put.{acksTo}
 use Rattle.protocol.specs.Read.{talkOf}
 use Rattle.protocol.specs.Signals.{inTurn, phaseAfterSignal, afterSignal}
 use Rattle.refusals.specs.Refusals.{Refusal, refuse}
-use Rattle.bus.specs.Signals.{signalOf, isTooLarge, putValue}
+use Rattle.bus.specs.Signals.{signalOf, isTooLarge}
 use Rattle.bus.specs.declared.Bus.{Bus}
 use Rattle.bus.specs.declared.SignalEvent.{SignalEvent}
 use Rattle.bus.specs.declared.SignalEvent.the-variants.{Start, Stop, Put, Get}
@@ -24,11 +24,11 @@ use Rattle.row.specs.declared.RowReply.{RowReply}
 abbrev pub recordAfter : Phase → SignalEvent → Device → Device
 recordAfter p e = afterSignal p (signalOf e)
 
--- a put's value is 1 if any record acknowledges, a get's the AND of all that talk
+-- a put's value is the set of the records that acknowledge, bit i for record i; a get's the AND of all that talk
 abbrev pub rowValue : List Device → Phase → SignalEvent → ℕ
 rowValue ds p Start = 0
 rowValue ds p Stop = 0
-rowValue ds p (Put byte) = putValue (mask 1 (acksTo p byte) ds)
+rowValue ds p (Put byte) = mask 1 (acksTo p byte) ds
 rowValue ds p (Get ack) = andOf talkOf ds 255
 
 -- the reply where nothing is refused

@@ -5,16 +5,18 @@ use mathlib.Core.List.{List, [], _∷_, map}
 use Prim.Native.Nat.{ℕ, _≤_}
 use native.Mathlib.Omega.{arith}
 use lib.Dec.{leb, ltb, eqb}
-use lib.ListN.{length, take, drop}
+use lib.ListN.{length, take, drop, getD}
 use lib.Seq.{take-append-seam, length-take-le}
-use borrow.Author.Tests.{le-ltb, le-leb, ltb-false, eqb-true, ne-eqb}
-use Rattle.basics.specs.Bits.{maskFirst}
+use borrow.Author.Tests.{le-ltb, le-leb, ltb-false, eqb-true, eq-eqb, ne-eqb}
+use Rattle.basics.specs.Bits.{bit, maskFirst}
+use Rattle.basics.specs.laws.Bits.{mask-bit}
 use Rattle.basics.specs.First.{allFirst, andFirst, all}
 use Rattle.basics.specs.laws.First.{map-firsts}
 use Rattle.basics.specs.laws.Logic.{holds, fails, tested, cond-of}
 use Rattle.device.specs.WellFormed.{wellFormed}
 use Rattle.device.specs.declared.Device.{Device}
 use Rattle.device.specs.declared.Phase.{Phase}
+use Rattle.protocol.specs.Put.{acksTo}
 use Rattle.protocol.specs.Signals.{inTurn, phaseAfterSignal}
 use Rattle.refusals.specs.Refusals.{refuse, least, codeOf}
 use Rattle.refusals.specs.laws.Refusals.{exact}
@@ -116,3 +118,9 @@ pub is-code : (ds : List Device) (p : Phase) (e : SignalEvent) → rowReply ds p
 is-code ds p e =
     let k = codeOf (rowRefusals ds p e) in
     ap (λ (r : RowReply). r .code) (is-row ds p e .0) ∙ elim (tested (eqb k 0)) [ holds q ↦ rw q (sym (eqb-true k 0 q)) | fails q ↦ rw q refl ]
+
+pub is-set : (ds : List Device) (p : Phase) (byte i : ℕ) (z : Device) → rowReply ds p (Put byte) .code ≡ 0 → bit i (rowReply ds p (Put byte) .value) ≡ (ltb i (length ds) && acksTo p byte (getD ds i z))
+is-set ds p byte i z c =
+    let k = codeOf (rowRefusals ds p (Put byte)) in
+    let done : eqb k 0 ≡ true = eq-eqb k 0 (sym (is-code ds p (Put byte)) ∙ c) in
+    rw (is-row ds p (Put byte) .0, done) (mask-bit (acksTo p byte) z ds i)
