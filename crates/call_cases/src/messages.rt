@@ -142,6 +142,19 @@ fn other_writes() {
     write(open, 128, b"\x82\x44");
 }
 
+// A PCA9634 and a PCA9531 besides: a put counts once, however many devices acknowledge it, and whichever they are.
+fn heard_by_some() {
+    let bus = setup::added(setup::added(driver(), 9634, 17), 9531, 0);
+    line::text(b"three boards, ");
+    write(bus, 112, b"\x82\x44");
+    line::text(b"three boards, ");
+    write(bus, 112, b"\x92\x44\x55");
+    line::text(b"three boards, ");
+    write(bus, 17, b"\x82\x44");
+    line::text(b"three boards, ");
+    read_from(bus, 112, 0x80);
+}
+
 // An awake driver with LED0 on in LEDOUT0 as written only: the STOP of a message to nobody puts it into effect.
 fn commit() {
     let mut device = device::fresh(Chip::Pca9635, 16);
@@ -161,5 +174,6 @@ pub fn run() {
     empty_writes();
     writes();
     other_writes();
+    heard_by_some();
     commit();
 }
