@@ -95,6 +95,7 @@ module _ {A : Type 0} (p : A → Bool) where
   mask-bit z (x ∷ l) zero = rw (mask-twice 1 l, lt-ltb 0 (length (x ∷ l)) (omega arith)) (bit-lowest (p x) (mask 1 p l))
   mask-bit z (x ∷ l) (suc i) = rw (mask-twice 1 l, leb·suc-suc (suc i) (length l)) (bit-next (p x) (mask 1 p l) i ∙ mask-bit z l i)
 
+  -- and of the first n, exactly when i is below n and p holds there
   pub first-bit : (z : A) (l : List A) (n i : ℕ) → n ≤ length l → bit i (maskFirst n p l) ≡ (ltb i n && p (getD l i z))
   unfolding maskFirst
   first-bit z l n i h =
