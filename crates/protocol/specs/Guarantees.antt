@@ -27,7 +27,7 @@ use Rattle.protocol.specs.laws.Effective.{put-same, get-same}
 use Rattle.protocol.specs.declared.Signal.{Signal}
 use Rattle.protocol.specs.declared.Signal.the-variants.{Start, Stop, Put, Get}
 
--- ---- shared call addresses
+-- ---- own and shared addresses
 
 -- bit k of MODE1 lets a driver with n outputs answer the address in register r: ALLCALLADR by bit 0, SUBADR1, 2, 3 by bits 3, 2, 1
 abbrev pub Lets : ℕ → ℕ → ℕ → Type 0
