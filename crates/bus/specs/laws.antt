@@ -1,6 +1,7 @@
 pub mod Asked
 pub mod Place
 pub mod Replies
+pub mod Runs
 pub mod Signals
 pub mod Units
 pub mod WellFormed

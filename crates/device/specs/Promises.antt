@@ -6,10 +6,10 @@ use Rattle.basics.specs.laws.Logic.{tested, holds, fails}
 use Rattle.chip.specs.Addresses.{addressAllowed}
 use Rattle.chip.specs.Promises.{reset-legal}
 use Rattle.chip.specs.declared.Chip.{Chip}
-use Rattle.device.specs.Fields.{withCount, withOe, withLevels}
+use Rattle.device.specs.Fields.{withOe, withLevels}
 use Rattle.device.specs.Registers.{isAwake}
 use Rattle.device.specs.Reset.{fresh, afterReset}
-use Rattle.device.specs.Wait.{advanced, afterWait}
+use Rattle.device.specs.Wait.{afterWait}
 use Rattle.device.specs.WellFormed.{recordOk, wellFormed}
 use Rattle.device.specs.laws.Wait.{advanced-within}
 use Rattle.device.specs.laws.WellFormed.{ok, fits, well, well-formed-ok, zero-within}
@@ -30,11 +30,7 @@ oe-well p oe d h = well p (withOe d oe) (ok d (well-formed-ok p d h)) (fits p d 
 pub levels-well : (p : Phase) (levels : ℕ) (d : Device) → wellFormed p d ≡ true → wellFormed p (withLevels d levels) ≡ true
 levels-well p levels d h = well p (withLevels d levels) (ok d (well-formed-ok p d h)) (fits p d h)
 
-pub waited-well : (p : Phase) (w : ℕ) (d : Device) → wellFormed p d ≡ true → wellFormed p (afterWait d w) ≡ true
-unfolding afterWait
-waited-well p w d h =
-    let o = ok d (well-formed-ok p d h) in
-    elim (tested (isAwake d)) [
-      | holds e ↦ rw e (well p (withCount d (advanced (d .count) w)) (record { legal = o .legal; allowed = o .allowed; within = advanced-within (d .count) w (o .within) }) (fits p d h))
-      | fails e ↦ rw e h
-    ]
+-- a wait leaves any record as well formed as it was
+pub waited-shape : (p : Phase) (w : ℕ) (d : Device) → wellFormed p (afterWait d w) ≡ wellFormed p d
+unfolding afterWait wellFormed recordOk
+waited-shape p w d = elim (tested (isAwake d)) [ holds e ↦ rw (e, advanced-within (d .count) w) | fails e ↦ rw e ]

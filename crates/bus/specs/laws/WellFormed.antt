@@ -15,7 +15,7 @@ use Rattle.chip.specs.declared.Lookup.{Lookup}
 use Rattle.chip.specs.declared.Lookup.the-variants.{Known, Unknown}
 use Rattle.device.specs.Reset.{fresh}
 use Rattle.device.specs.WellFormed.{wellFormed}
-use Rattle.device.specs.Promises.{fresh-well, reset-well, oe-well, levels-well, waited-well}
+use Rattle.device.specs.Promises.{fresh-well, reset-well, oe-well, levels-well, waited-shape}
 use Rattle.device.specs.laws.WellFormed.{well-formed-ok}
 use Rattle.device.specs.declared.Device.{Device}
 use Rattle.device.specs.declared.Phase.{Phase}
@@ -94,7 +94,7 @@ added-well b (Known chip) address h k f =
 
 change-well : (p : Phase) (d : Device) (c : Change) → wellFormed p d ≡ true → wellFormed p (afterChange d c) ≡ true
 unfolding afterChange
-change-well p d (C.Wait ticks) h = waited-well p ticks d h
+change-well p d (C.Wait ticks) h = waited-shape p ticks d ∙ h
 change-well p d (C.Oe level) h = oe-well p (eqb level 1) d h
 change-well p d (C.Ext level) h = levels-well p level d h
 change-well p d C.Reset h = reset-well p d (well-formed-ok p d h)
@@ -170,7 +170,7 @@ added-places : (b : Bus) (found : Lookup) (address : ℕ) → length (addedTo b 
 added-places b Unknown address = refl
 added-places b (Known chip) address = length-set (b .devices) (b .count) (fresh chip address)
 
-done-places : (b : Bus) (e : Event) → length (stepDone b e .bus .devices) ≡ length (b .devices)
+pub done-places : (b : Bus) (e : Event) → length (stepDone b e .bus .devices) ≡ length (b .devices)
 unfolding stepDone
 done-places b (E.Add chip addr) = added-places b (chipNumbered chip) addr
 done-places b (E.Signal s) = map-long _ (b .count) (b .devices)

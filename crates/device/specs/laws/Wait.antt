@@ -2,7 +2,9 @@
 use mathlib.Core.Path.{_≡_, sym, _∙_}
 use mathlib.Core.Bool.{Bool, true, false}
 use Prim.Native.Nat.{ℕ, _+_}
+use native.Mathlib.Omega.{arith}
 use lib.Dec.{leb}
+use borrow.Author.Tests.{leb-true, le-leb}
 use Rattle.basics.specs.laws.Logic.{tested, holds, fails}
 use Rattle.lamp.specs.Window.{countLimit}
 use Rattle.lamp.specs.Duration.{amount}
@@ -21,11 +23,14 @@ module _ (t w : ℕ) (b : Bool) (e : b ≡ leb (t + w) countLimit) where
   unfolding advanced
   beyond-stays h = rw (sym e ∙ h)
 
--- a count within the limit stays within it
-pub advanced-within : (t w : ℕ) → leb t countLimit ≡ true → leb (advanced t w) countLimit ≡ true
+-- a count is within the limit as it was before
+pub advanced-within : (t w : ℕ) → leb (advanced t w) countLimit ≡ leb t countLimit
 unfolding advanced
-advanced-within t w h =
-    elim (tested (leb (t + w) countLimit)) [ holds e ↦ rw (e, e) | fails e ↦ rw e h ]
+advanced-within t w =
+    elim (tested (leb (t + w) countLimit)) [
+      | holds e ↦ rw (e, e, le-leb t countLimit (omega (arith, leb-true (t + w) countLimit e)))
+      | fails e ↦ rw e
+    ]
 
 -- a bare number in a chip's own unit is in its own unit, and is that number
 pub own-is-own : (chip : Chip) (n : ℕ) → isOwn chip (ownDuration chip n) ≡ true

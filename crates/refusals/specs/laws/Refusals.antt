@@ -1,7 +1,7 @@
 -- The code of a list of refusals: how it is put together, what a code of 0 says, and that any other is the least number whose condition holds.
 use mathlib.Core.Path.{_≡_, refl, sym, ap, _∙_}
 use mathlib.Core.Logic.{_⊎_, inl, inr, ⊎-elim}
-use mathlib.Core.Bool.{Bool, true, false, not, _&&_, and-false, or-true, false≢true}
+use mathlib.Core.Bool.{Bool, true, false, not, _&&_, _||_, and-false, or-true, or-assoc, false≢true}
 use mathlib.Core.List.{List, [], _∷_, _++_}
 use Prim.Native.Nat.{ℕ, zero, suc, min, _≤_, _<_}
 use native.Mathlib.Omega.{arith}
@@ -130,6 +130,26 @@ accepted (r ∷ l) h e =
   where
     none : (numberOf r ≡ 0) × (codeOf l ≡ 0)
     none = least-none (numberOf r) (codeOf l) e
+
+pub none-code : (l : List Refusal) → NoneHolds l → codeOf l ≡ 0
+unfolding codeOf least
+none-code [] n = refl
+none-code (r ∷ l) n = rw (n .0, none-code l (n .1)) refl
+
+-- ---- two lists, one after the other
+
+pub positive-both : (l m : List Refusal) → positive l ≡ true → positive m ≡ true → positive (l ++ m) ≡ true
+positive-both [] m h g = g
+positive-both (r ∷ l) m h g =
+    rw (and-left (not (eqb (r .number) 0)) (positive l) h) (positive-both l m (and-right (not (eqb (r .number) 0)) (positive l) h) g)
+
+pub none-both : (l m : List Refusal) → NoneHolds (l ++ m) → NoneHolds l × NoneHolds m
+none-both [] m n = (tt, n)
+none-both (r ∷ l) m n = let h = none-both l m (n .1) in ((n .0, h .0), h .1)
+
+pub holds-both : (l m : List Refusal) (k : ℕ) → holdsAt (l ++ m) k ≡ (holdsAt l k || holdsAt m k)
+holds-both [] m k = refl
+holds-both (r ∷ l) m k = rw (holds-both l m k) (sym (or-assoc (eqb (r .number) k && r .holds) (holdsAt l k) (holdsAt m k)))
 
 -- ---- any other code
 

@@ -1,0 +1,5 @@
+pub mod Time
+pub mod Replay
+pub mod ByHand
+pub mod laws
+pub mod Promises

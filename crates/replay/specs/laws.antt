@@ -1,0 +1,3 @@
+pub mod Time
+pub mod Timed
+pub mod Waits
