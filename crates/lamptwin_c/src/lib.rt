@@ -3,7 +3,7 @@ ghost use mathlib.Core.Path.{_≡_};
 ghost use lib.ListN.{length};
 ghost use Rattle.text.specs.Lines.{linesOf};
 ghost use Rattle.text.specs.Run.{RunsLog};
-ghost use Rattle.script.specs.Twin.{freshState, twin};
+ghost use Rattle.script.specs.Twin.{freshState, freshReplay, twin};
 
 #[no_mangle]
 pub extern "C" fn lamptwin_lines(log: &[u8]) -> usize
@@ -17,4 +17,11 @@ pub extern "C" fn lamptwin_run(log: &[u8], answers: &mut [u8]) -> usize
     ensures { λ r. ⌜ RunsLog twin freshState (now (log .entry)) (now (answers .entry)) (now (answers .exit)) r ⌝ }
 {
     script::run_log(log, answers)
+}
+
+#[no_mangle]
+pub extern "C" fn lamptwin_replay(log: &[u8], answers: &mut [u8]) -> usize
+    ensures { λ r. ⌜ RunsLog twin freshReplay (now (log .entry)) (now (answers .entry)) (now (answers .exit)) r ⌝ }
+{
+    script::replay_log(log, answers)
 }

@@ -1,2 +1,4 @@
 pub mod Parser
+pub mod Stamped
+pub mod Heard
 pub mod Turn
