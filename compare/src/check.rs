@@ -1,7 +1,8 @@
 //! Comparison of the twin with the model on generated logs: the linked
 //! library against the model, and the built program against the library.
 
-use crate::{generate, text};
+use crate::sort::Sort;
+use crate::text;
 use std::io::{self, Write};
 use std::process::{Command, Stdio};
 use std::thread;
@@ -28,12 +29,20 @@ impl Pair {
     }
 
     /// Both answers to a log.
-    pub fn answers(self, program: &str, log: &[u8]) -> io::Result<(Vec<u8>, Vec<u8>)> {
+    pub fn answers(self, twin: Twin, log: &[u8]) -> io::Result<(Vec<u8>, Vec<u8>)> {
+        let Twin { sort, program } = twin;
         Ok(match self {
-            Pair::ModelAndLibrary => (text::run(log), lamptwin::run(log)),
-            Pair::LibraryAndProgram => (lamptwin::run(log), run_program(program, log)?),
+            Pair::ModelAndLibrary => (sort.model(log), sort.library(log)),
+            Pair::LibraryAndProgram => (sort.library(log), run_program(program, log)?),
         })
     }
+}
+
+/// The twin for a sort of logs, and the path of its program.
+#[derive(Debug, Clone, Copy)]
+pub struct Twin<'a> {
+    pub sort: Sort,
+    pub program: &'a str,
 }
 
 /// A log to which the two answers differ.
@@ -58,17 +67,17 @@ pub fn damage_share(seed: u64) -> u64 {
 }
 
 /// Compares on the logs of the seeds, from the first on, until answers differ.
-pub fn compare(program: &str, first: u64, seeds: u64, lines: usize) -> io::Result<Outcome> {
+pub fn compare(twin: Twin, first: u64, seeds: u64, lines: usize) -> io::Result<Outcome> {
     let mut outcome = Outcome {
         logs: 0,
         lines: 0,
         mismatch: None,
     };
     for seed in first..first + seeds {
-        let log = generate::log(seed, lines, damage_share(seed));
+        let log = twin.sort.log(seed, lines, damage_share(seed));
         outcome.logs += 1;
         outcome.lines += text::lines(&log).count() as u64;
-        outcome.mismatch = difference(program, seed, &log)?;
+        outcome.mismatch = difference(twin, seed, &log)?;
         if outcome.mismatch.is_some() {
             break;
         }
@@ -76,9 +85,9 @@ pub fn compare(program: &str, first: u64, seeds: u64, lines: usize) -> io::Resul
     Ok(outcome)
 }
 
-fn difference(program: &str, seed: u64, log: &[u8]) -> io::Result<Option<Mismatch>> {
+fn difference(twin: Twin, seed: u64, log: &[u8]) -> io::Result<Option<Mismatch>> {
     for pair in [Pair::ModelAndLibrary, Pair::LibraryAndProgram] {
-        let (expected, actual) = pair.answers(program, log)?;
+        let (expected, actual) = pair.answers(twin, log)?;
         if expected != actual {
             return Ok(Some(Mismatch {
                 seed,
@@ -125,12 +134,12 @@ pub fn line_text(bytes: &[u8], number: usize) -> String {
 }
 
 /// The shortest log found to which the two answers still differ.
-pub fn shorten_for(program: &str, mismatch: &Mismatch) -> Vec<u8> {
+pub fn shorten_for(twin: Twin, mismatch: &Mismatch) -> Vec<u8> {
     let mut runs = 0;
     let first = first_difference(&mismatch.expected, &mismatch.actual);
     shorten(&mismatch.log, first, |log| {
         runs += 1;
-        let answers = mismatch.pair.answers(program, log);
+        let answers = mismatch.pair.answers(twin, log);
         runs <= MAX_SHORTENING_RUNS && answers.is_ok_and(|(expected, actual)| expected != actual)
     })
 }
@@ -188,14 +197,16 @@ mod tests {
 
     #[test]
     fn needed_lines_stay() {
-        let log = generate::log(5, 400, 10);
-        let third = text::lines(&log).nth(120).unwrap().to_vec();
-        let fails = |log: &[u8]| {
-            let wanted = |line: &[u8]| line == third || line == b"ev=stop";
-            text::lines(log).filter(|line| wanted(line)).count() >= 2
-        };
-        let short = shorten(&log, 400, fails);
-        assert_eq!(text::lines(&short).count(), 2);
+        for sort in [Sort::Plain, Sort::Stamped] {
+            let log = sort.log(5, 400, 10);
+            let third = text::lines(&log).nth(120).unwrap().to_vec();
+            let fails = |log: &[u8]| {
+                let wanted = |line: &[u8]| line == third || line.ends_with(b"ev=stop");
+                text::lines(log).filter(|line| wanted(line)).count() >= 2
+            };
+            let short = shorten(&log, 400, fails);
+            assert_eq!(text::lines(&short).count(), 2);
+        }
     }
 
     #[test]

@@ -1,14 +1,17 @@
 //! Seeded logs: sensible traffic, out-of-turn events, wrong numbers and
-//! damaged lines.
+//! damaged lines, with stamps or without.
 //!
 //! The generator runs the model along with the log, so it knows which boards
 //! exist, what message is open and which register is pointed to, and plans
 //! its next lines accordingly.
 
+mod stamps;
+
 use crate::model::{
-    Blinker, Bus, Chip, Driver, Event, Message, Phase, INPUT, MAX_COUNT, MAX_DEVICES, MODE1, MODE2,
+    Blinker, Chip, Driver, Event, Message, Phase, INPUT, MAX_COUNT, MAX_DEVICES, MODE1, MODE2,
     PWM0, SLEEP,
 };
+use crate::replay::Replay;
 use crate::text;
 use std::collections::VecDeque;
 
@@ -53,11 +56,13 @@ impl Random {
 /// A log of about `lines` lines, of which about `damage` percent are out of
 /// turn, wrong or damaged.
 pub fn log(seed: u64, lines: usize, damage: u64) -> Vec<u8> {
-    let mut generator = Generator::new(seed, damage);
-    while generator.lines < lines {
-        generator.next_line();
-    }
-    generator.finish()
+    Generator::new(seed, damage, false).log(lines)
+}
+
+/// The same with stamps: another log, not the plain one with stamps before
+/// its lines.
+pub fn stamped_log(seed: u64, lines: usize, damage: u64) -> Vec<u8> {
+    Generator::new(seed, damage, true).log(lines)
 }
 
 /// A planned line, worked out when its turn comes.
@@ -68,6 +73,9 @@ enum Step {
     Data,
     /// A wait of the device at a position.
     Wait(usize),
+    /// A wait that leaves the device at a position less time to its limit
+    /// than one line's stamp can let pass.
+    WaitNearLimit(usize),
     /// A question about any output of the device at a position.
     Question(usize),
     /// A question about the output of the device at a position.
@@ -77,8 +85,11 @@ enum Step {
 struct Generator {
     random: Random,
     damage: u64,
-    /// The bus after all finished lines.
-    bus: Bus,
+    /// The bus after all finished lines, and the stamp if there are stamps.
+    replay: Replay,
+    stamped: bool,
+    /// The time that the next line lets pass; 0 without stamps.
+    pause: u64,
     plan: VecDeque<Step>,
     output: Vec<u8>,
     /// Where the unfinished line starts.
@@ -128,11 +139,13 @@ const CHIPS: [u64; 4] = [9635, 9634, 9531, 9551];
 const DRIVER_ADDRESSES: [u64; 14] = [0, 1, 2, 4, 21, 22, 23, 96, 97, 111, 113, 114, 126, 127];
 
 impl Generator {
-    fn new(seed: u64, damage: u64) -> Generator {
+    fn new(seed: u64, damage: u64, stamped: bool) -> Generator {
         let mut generator = Generator {
             random: Random::new(seed),
             damage,
-            bus: Bus::new(),
+            replay: Replay::default(),
+            stamped,
+            pause: 0,
             plan: VecDeque::new(),
             output: Vec::new(),
             line_start: 0,
@@ -142,10 +155,23 @@ impl Generator {
         generator
     }
 
+    fn log(mut self, lines: usize) -> Vec<u8> {
+        while self.lines < lines {
+            self.next_line();
+        }
+        self.finish()
+    }
+
     /// Writes one line, sensible or not.
     fn next_line(&mut self) {
+        if self.stamped {
+            self.choose_pause();
+        }
         if self.random.chance(self.damage) {
             return self.disturb();
+        }
+        if self.stamped && self.past_limit() && self.random.chance(70) {
+            return self.disturb_past_limit();
         }
         if !self.plan.is_empty() && self.random.chance(6) {
             return self.interleave();
@@ -161,10 +187,12 @@ impl Generator {
 
     fn in_turn(&self, event: Event) -> bool {
         match event {
-            Event::Add { .. } => self.bus.message == Message::Idle,
-            Event::Stop => self.bus.message != Message::Idle,
-            Event::Put { .. } => matches!(self.bus.message, Message::Address | Message::Write),
-            Event::Get { .. } => self.bus.message == Message::Read,
+            Event::Add { .. } => self.replay.bus.message == Message::Idle,
+            Event::Stop => self.replay.bus.message != Message::Idle,
+            Event::Put { .. } => {
+                matches!(self.replay.bus.message, Message::Address | Message::Write)
+            }
+            Event::Get { .. } => self.replay.bus.message == Message::Read,
             _ => true,
         }
     }
@@ -182,16 +210,21 @@ impl Generator {
 
     fn next_step(&mut self) -> Step {
         while self.plan.is_empty() {
-            self.plan_something();
+            if !self.stamped || !self.plan_for_limit() {
+                self.plan_something();
+            }
         }
         self.plan.pop_front().unwrap()
     }
 
     fn finish(mut self) -> Vec<u8> {
         if self.random.chance(self.damage) {
-            let tail = *self
-                .random
-                .pick(&["\n", "\n\n", "ev=sta", "ev=start\n\nev=stop"]);
+            let tails = if self.stamped {
+                stamps::TAILS
+            } else {
+                ["\n", "\n\n", "ev=sta", "ev=start\n\nev=stop"]
+            };
+            let tail = *self.random.pick(&tails);
             self.output.extend_from_slice(tail.as_bytes());
         }
         if self.random.chance(30) && self.output.last() == Some(&b'\n') {
@@ -203,16 +236,31 @@ impl Generator {
     // Writing lines.
 
     fn write_event(&mut self, event: Event) {
-        let mut line = text::format_event(event).into_bytes();
+        let mut line = self.line_of(event);
         line.push(b'\n');
         self.write_bytes(&line);
+    }
+
+    /// The line of an event, with its stamp if there are stamps.
+    fn line_of(&mut self, event: Event) -> Vec<u8> {
+        let line = text::format_event(event);
+        if self.stamped {
+            format!("at={} {line}", self.next_stamp()).into_bytes()
+        } else {
+            line.into_bytes()
+        }
     }
 
     /// Adds bytes to the log and runs the model over the lines they finish.
     fn write_bytes(&mut self, bytes: &[u8]) {
         for &byte in bytes {
             if byte == b'\n' {
-                text::answer(&mut self.bus, &self.output[self.line_start..]);
+                let line = &self.output[self.line_start..];
+                if self.stamped {
+                    self.replay.answer(line);
+                } else {
+                    text::answer(&mut self.replay.bus, line);
+                }
                 self.lines += 1;
                 self.line_start = self.output.len() + 1;
             }
@@ -232,8 +280,12 @@ impl Generator {
                 device: position as u64,
                 ticks: self.wait_ticks(position),
             },
+            Step::WaitNearLimit(position) => Event::Wait {
+                device: position as u64,
+                ticks: self.room(position).saturating_sub(self.any_size(32)),
+            },
             Step::Question(position) => {
-                let outputs = self.bus.devices[position].chip.outputs();
+                let outputs = self.replay.bus.devices[position].chip.outputs();
                 let output = self.random.below(outputs);
                 self.question(position, output)
             }
@@ -252,6 +304,7 @@ impl Generator {
     /// A byte that suits the pointed register of a listening device.
     fn data_byte(&mut self) -> u8 {
         let listeners: Vec<&Chip> = self
+            .replay
             .bus
             .devices
             .iter()
@@ -294,8 +347,8 @@ impl Generator {
 
     /// Usual group addresses, those of other boards, or the reset call's.
     fn group_address_byte(&mut self) -> u8 {
-        let other = self.random.index(self.bus.devices.len());
-        let other = self.bus.devices[other].chip.own_address() << 1;
+        let other = self.random.index(self.replay.bus.devices.len());
+        let other = self.replay.bus.devices[other].chip.own_address() << 1;
         let random = self.random.byte();
         *self.random.pick(&[
             0xE0,
@@ -333,7 +386,7 @@ impl Generator {
 
     /// Period and length of the pulse that an output follows.
     fn pulse(&mut self, position: usize) -> (u64, u64) {
-        let chip = &self.bus.devices[position].chip;
+        let chip = &self.replay.bus.devices[position].chip;
         let output = self.random.below(chip.outputs()) as usize;
         match chip {
             Chip::Driver(driver) if driver.mode(output) == 0b11 && self.random.chance(70) => {
@@ -349,7 +402,7 @@ impl Generator {
 
     /// Ticks until a pulse next begins or ends, give or take one.
     fn ticks_to_edge(&mut self, position: usize) -> u64 {
-        let t = self.bus.devices[position].chip.count();
+        let t = self.count(position);
         let (period, on) = self.pulse(position);
         let edge = *self.random.pick(&[0, on]);
         let distance = (edge + period - t % period) % period;
@@ -362,11 +415,20 @@ impl Generator {
         self.random.below(1 << bits)
     }
 
+    /// The count of a device when the next line's time has passed.
+    fn count(&self, position: usize) -> u64 {
+        let chip = &self.replay.bus.devices[position].chip;
+        if chip.is_driver() && chip.awake() {
+            MAX_COUNT.min(chip.count() + self.pause)
+        } else {
+            chip.count()
+        }
+    }
+
     /// Ticks left until the limit, or any number asleep.
     fn room(&self, position: usize) -> u64 {
-        let chip = &self.bus.devices[position].chip;
-        if chip.awake() {
-            MAX_COUNT - chip.count()
+        if self.replay.bus.devices[position].chip.awake() {
+            MAX_COUNT - self.count(position)
         } else {
             MAX_COUNT
         }
@@ -428,21 +490,21 @@ impl Generator {
     }
 
     fn position(&mut self) -> usize {
-        self.random.index(self.bus.devices.len())
+        self.random.index(self.replay.bus.devices.len())
     }
 
     fn driver_positions(&self) -> Vec<usize> {
-        let positions = 0..self.bus.devices.len();
+        let positions = 0..self.replay.bus.devices.len();
         positions
-            .filter(|&position| self.bus.devices[position].chip.is_driver())
+            .filter(|&position| self.replay.bus.devices[position].chip.is_driver())
             .collect()
     }
 
     /// The positions of the devices that answer a 7-bit address other than 3.
     fn positions_answering(&self, address: u8) -> Vec<usize> {
-        let positions = 0..self.bus.devices.len();
+        let positions = 0..self.replay.bus.devices.len();
         positions
-            .filter(|&position| self.bus.devices[position].chip.answers(address))
+            .filter(|&position| self.replay.bus.devices[position].chip.answers(address))
             .collect()
     }
 
@@ -481,11 +543,11 @@ impl Generator {
     }
 
     fn plan_something(&mut self) {
-        if self.bus.devices.is_empty() {
+        if self.replay.bus.devices.is_empty() {
             return self.plan_boards();
         }
         let position = self.position();
-        if !self.bus.devices[position].chip.awake() && self.random.chance(40) {
+        if !self.replay.bus.devices[position].chip.awake() && self.random.chance(40) {
             return if self.random.chance(50) {
                 self.plan_wake_up(position)
             } else {
@@ -520,10 +582,10 @@ impl Generator {
 
     /// More boards, if there is room.
     fn plan_boards(&mut self) {
-        if self.bus.message != Message::Idle {
+        if self.replay.bus.message != Message::Idle {
             self.push(Event::Stop);
         }
-        if self.bus.devices.len() < MAX_DEVICES {
+        if self.replay.bus.devices.len() < MAX_DEVICES {
             self.plan_add();
         } else {
             self.plan_time(0);
@@ -533,7 +595,7 @@ impl Generator {
     /// The device's own address or one of its group addresses, as a byte for
     /// writing.
     fn address_byte(&mut self, position: usize) -> u8 {
-        let chip = &self.bus.devices[position].chip;
+        let chip = &self.replay.bus.devices[position].chip;
         let own = chip.own_address() << 1;
         let Chip::Driver(driver) = chip else {
             return own;
@@ -557,7 +619,7 @@ impl Generator {
     }
 
     fn control_byte(&mut self, position: usize) -> u8 {
-        match &self.bus.devices[position].chip {
+        match &self.replay.bus.devices[position].chip {
             Chip::Driver(driver) => {
                 let layout = driver.layout;
                 let option = *self.random.pick(&[0, 4, 5, 6, 7, 4, 7]);
@@ -643,7 +705,9 @@ impl Generator {
     /// Registers of one output written, with questions about it before and
     /// after some other message and its STOP.
     fn plan_pending(&mut self, position: usize) {
-        let output = self.random.below(self.bus.devices[position].chip.outputs());
+        let output = self
+            .random
+            .below(self.replay.bus.devices[position].chip.outputs());
         let control = self.output_control_byte(position, output as u8);
         self.begin_write(position, control);
         let length = 1 + self.random.below(3);
@@ -658,7 +722,7 @@ impl Generator {
 
     /// Points to a register that an output's lamp depends on.
     fn output_control_byte(&mut self, position: usize, output: u8) -> u8 {
-        match &self.bus.devices[position].chip {
+        match &self.replay.bus.devices[position].chip {
             Chip::Driver(driver) => {
                 let layout = driver.layout;
                 let pwm = PWM0 + output;
@@ -707,7 +771,7 @@ impl Generator {
 
     /// The whole table in one message, from register 0 or 1 on.
     fn plan_set_up(&mut self, position: usize) {
-        let (control, length) = match &self.bus.devices[position].chip {
+        let (control, length) = match &self.replay.bus.devices[position].chip {
             Chip::Driver(driver) => (0x80, driver.layout.allcalladr as u64 + 1),
             Chip::Blinker(_) => (0x11, 6),
         };
@@ -719,7 +783,7 @@ impl Generator {
 
     /// Writes MODE1 by the device's own address.
     fn plan_mode1(&mut self, position: usize, byte: u8) {
-        let own = self.bus.devices[position].chip.own_address() << 1;
+        let own = self.replay.bus.devices[position].chip.own_address() << 1;
         let control = *self.random.pick(&[0x00, 0x80, 0xA0, 0xC0, 0xE0]);
         self.push(Event::Start);
         self.push_put(own);
@@ -741,7 +805,7 @@ impl Generator {
 
     fn plan_sleep(&mut self, position: usize) {
         let byte = self.random.byte() | SLEEP;
-        if self.bus.devices[position].chip.is_driver() {
+        if self.replay.bus.devices[position].chip.is_driver() {
             self.plan_mode1(position, byte);
             self.end_message();
             self.ask_about(position, 50);
@@ -758,7 +822,7 @@ impl Generator {
 
     /// Lets the count of a device near the limit begin anew.
     fn plan_restart(&mut self, position: usize) {
-        if self.bus.devices[position].chip.is_driver() && self.random.chance(80) {
+        if self.replay.bus.devices[position].chip.is_driver() && self.random.chance(80) {
             self.plan_sleep(position);
             self.plan_wake_up(position);
         } else {
@@ -807,7 +871,7 @@ impl Generator {
         let event = self.level_event(position);
         self.push(event);
         if self.random.chance(30) {
-            for output in 0..self.bus.devices[position].chip.outputs() {
+            for output in 0..self.replay.bus.devices[position].chip.outputs() {
                 self.push(Event::Pin {
                     device: position as u64,
                     output,
@@ -820,7 +884,7 @@ impl Generator {
 
     fn level_event(&mut self, position: usize) -> Event {
         let device = position as u64;
-        match self.bus.devices[position].chip {
+        match self.replay.bus.devices[position].chip {
             Chip::Driver(_) => Event::Oe {
                 device,
                 level: self.random.below(2),
@@ -834,7 +898,7 @@ impl Generator {
 
     /// A control byte that may be illegal, bytes after it, then a read.
     fn plan_illegal_control(&mut self, position: usize) {
-        let control = match &self.bus.devices[position].chip {
+        let control = match &self.replay.bus.devices[position].chip {
             Chip::Driver(driver) => {
                 let past = self.random.byte() & 0xE0 | (driver.layout.allcalladr + 1);
                 let option = 1 + self.random.below(3) as u8;
@@ -931,7 +995,7 @@ impl Generator {
 
     /// A sensible event that is not on the bus, between planned lines.
     fn interleave(&mut self) {
-        if self.bus.devices.is_empty() {
+        if self.replay.bus.devices.is_empty() {
             return;
         }
         let position = self.position();
@@ -947,6 +1011,9 @@ impl Generator {
     }
 
     fn disturb(&mut self) {
+        if self.stamped && self.random.chance(25) {
+            return self.disturb_stamp();
+        }
         match self.random.below(4) {
             0 => {
                 let event = self.out_of_turn();
@@ -973,7 +1040,7 @@ impl Generator {
             chip: *self.random.pick(&CHIPS),
             address: self.random.below(8),
         };
-        let events = match self.bus.message {
+        let events = match self.replay.bus.message {
             Message::Idle => [put, get, Event::Stop],
             Message::Address | Message::Write => [get, get, add],
             Message::Read => [put, put, add],
@@ -1029,7 +1096,7 @@ impl Generator {
             },
             3 => Event::Get { ack: self.past(2) },
             4 => Event::Reset {
-                device: self.past(self.bus.devices.len() as u64),
+                device: self.past(self.replay.bus.devices.len() as u64),
             },
             _ => self.wrong_device_event(),
         }
@@ -1047,13 +1114,13 @@ impl Generator {
     /// An event of a device with a missing device or output, a level out of
     /// range, the wrong sort of device, or too many ticks.
     fn wrong_device_event(&mut self) -> Event {
-        if self.bus.devices.is_empty() {
+        if self.replay.bus.devices.is_empty() {
             return self.any_event();
         }
         let position = self.position();
         let device = position as u64;
-        let missing = self.past(self.bus.devices.len() as u64);
-        let missing_output = self.past(self.bus.devices[position].chip.outputs());
+        let missing = self.past(self.replay.bus.devices.len() as u64);
+        let missing_output = self.past(self.replay.bus.devices[position].chip.outputs());
         let too_many = self.past(self.room(position) + 1);
         match self.random.below(8) {
             0 => Event::Wait {
@@ -1143,8 +1210,8 @@ impl Generator {
         let step = self.next_step();
         let event = self.resolve(step);
         let other = self.any_event();
-        let mut line = text::format_event(event).into_bytes();
-        let other = text::format_event(other).into_bytes();
+        let mut line = self.line_of(event);
+        let other = self.line_of(other);
         let random = &mut self.random;
         match random.below(5) {
             0..=1 => damage_bytes(random, &mut line),
@@ -1271,6 +1338,7 @@ fn fill(random: &mut Random, line: &mut Vec<u8>, least: usize, more: usize) {
 #[cfg(test)]
 mod tests {
     use super::*;
+    use crate::model::Bus;
     use std::collections::BTreeSet;
 
     /// The codes of all answers to a log.
@@ -1314,10 +1382,10 @@ mod tests {
     fn counts_reach_the_limit() {
         let mut reached = 0;
         for seed in 1..20 {
-            let mut generator = Generator::new(seed, 5);
+            let mut generator = Generator::new(seed, 5, false);
             while generator.lines < 3000 {
                 generator.next_line();
-                let devices = &generator.bus.devices;
+                let devices = &generator.replay.bus.devices;
                 reached += devices
                     .iter()
                     .any(|device| device.chip.count() == MAX_COUNT)

@@ -4,5 +4,7 @@ pub mod check;
 pub mod generate;
 pub mod lit;
 pub mod model;
+pub mod replay;
+pub mod sort;
 pub mod text;
 pub mod timing;

@@ -1,71 +1,88 @@
 //! `compare model` answers a log, `compare generate` writes one, `compare
 //! check` compares the twin with the model, `compare time` times both, and
-//! `compare lit` times their lit counts.
+//! `compare lit` times their lit counts. `compare replay` is `compare check`
+//! for recorded logs, whose lines bear stamps.
 
-use compare::{check, generate, lit, text, timing};
+use compare::check::Twin;
+use compare::sort::Sort;
+use compare::{check, lit, text, timing};
 use std::env;
 use std::io::{self, Read, Write};
 use std::process::ExitCode;
 use std::time::Duration;
 
-const USAGE: &str = "usage: compare model
-       compare generate SEED LINES DAMAGE_PERCENT
+const USAGE: &str = "usage: compare model [replay]
+       compare generate [replay] SEED LINES DAMAGE_PERCENT
        compare check PROGRAM FIRST_SEED SEEDS LINES
+       compare replay PROGRAM FIRST_SEED SEEDS LINES
        compare time LINES RUNS
        compare lit PROGRAM RUNS";
 
 fn main() -> ExitCode {
     let arguments: Vec<String> = env::args().skip(1).collect();
     let arguments: Vec<&str> = arguments.iter().map(String::as_str).collect();
-    let result = match arguments[..] {
-        ["model"] => model(),
-        ["generate", seed, lines, damage] => match (seed.parse(), lines.parse(), damage.parse()) {
-            (Ok(seed), Ok(lines), Ok(damage)) => write_log(seed, lines, damage),
-            _ => return usage(),
-        },
-        ["check", program, first, seeds, lines] => {
-            match (first.parse(), seeds.parse(), lines.parse()) {
-                (Ok(first), Ok(seeds), Ok(lines)) => check_twin(program, first, seeds, lines),
-                _ => return usage(),
-            }
+    match run(&arguments) {
+        Some(Ok(code)) => code,
+        Some(Err(error)) => {
+            eprintln!("compare: {error}");
+            ExitCode::from(2)
         }
-        ["time", lines, runs] => match (lines.parse(), runs.parse()) {
-            (Ok(lines), Ok(runs)) if runs > 0 => time_both(lines, runs),
-            _ => return usage(),
+        None => {
+            eprintln!("{USAGE}");
+            ExitCode::from(2)
+        }
+    }
+}
+
+/// Nothing for wrong arguments.
+fn run(arguments: &[&str]) -> Option<io::Result<ExitCode>> {
+    Some(match *arguments {
+        ["model"] => model(Sort::Plain),
+        ["model", "replay"] => model(Sort::Stamped),
+        ["generate", "replay", ref numbers @ ..] => write_log(Sort::Stamped, numbers_of(numbers)?),
+        ["generate", ref numbers @ ..] => write_log(Sort::Plain, numbers_of(numbers)?),
+        ["check", program, ref numbers @ ..] => {
+            let sort = Sort::Plain;
+            check_twin(Twin { sort, program }, numbers_of(numbers)?)
+        }
+        ["replay", program, ref numbers @ ..] => {
+            let sort = Sort::Stamped;
+            check_twin(Twin { sort, program }, numbers_of(numbers)?)
+        }
+        ["time", ref numbers @ ..] => match numbers_of(numbers)? {
+            [_, 0] => return None,
+            [lines, runs] => time_both(lines as usize, runs as usize),
         },
-        ["lit", program, runs] => match runs.parse() {
-            Ok(runs) if runs > 0 => time_counts(program, runs),
-            _ => return usage(),
+        ["lit", program, ref numbers @ ..] => match numbers_of(numbers)? {
+            [0] => return None,
+            [runs] => time_counts(program, runs as usize),
         },
-        _ => return usage(),
-    };
-    result.unwrap_or_else(|error| {
-        eprintln!("compare: {error}");
-        ExitCode::from(2)
+        _ => return None,
     })
 }
 
-fn usage() -> ExitCode {
-    eprintln!("{USAGE}");
-    ExitCode::from(2)
+/// So many numbers, no more and no fewer.
+fn numbers_of<const N: usize>(arguments: &[&str]) -> Option<[u64; N]> {
+    let numbers: Option<Vec<u64>> = arguments.iter().map(|word| word.parse().ok()).collect();
+    numbers?.try_into().ok()
 }
 
-fn model() -> io::Result<ExitCode> {
+fn model(sort: Sort) -> io::Result<ExitCode> {
     let mut input = Vec::new();
     io::stdin().read_to_end(&mut input)?;
-    io::stdout().write_all(&text::run(&input))?;
+    io::stdout().write_all(&sort.model(&input))?;
     Ok(ExitCode::SUCCESS)
 }
 
-fn write_log(seed: u64, lines: usize, damage: u64) -> io::Result<ExitCode> {
-    io::stdout().write_all(&generate::log(seed, lines, damage))?;
+fn write_log(sort: Sort, [seed, lines, damage]: [u64; 3]) -> io::Result<ExitCode> {
+    io::stdout().write_all(&sort.log(seed, lines as usize, damage))?;
     Ok(ExitCode::SUCCESS)
 }
 
-fn check_twin(program: &str, first: u64, seeds: u64, lines: usize) -> io::Result<ExitCode> {
-    let outcome = check::compare(program, first, seeds, lines)?;
+fn check_twin(twin: Twin, [first, seeds, lines]: [u64; 3]) -> io::Result<ExitCode> {
+    let outcome = check::compare(twin, first, seeds, lines as usize)?;
     if let Some(mismatch) = &outcome.mismatch {
-        print_mismatch(program, mismatch);
+        print_mismatch(twin, mismatch);
     }
     println!("compared {} logs, {} lines", outcome.logs, outcome.lines);
     Ok(match outcome.mismatch {
@@ -74,19 +91,19 @@ fn check_twin(program: &str, first: u64, seeds: u64, lines: usize) -> io::Result
     })
 }
 
-fn print_mismatch(program: &str, mismatch: &check::Mismatch) {
+fn print_mismatch(twin: Twin, mismatch: &check::Mismatch) {
     println!(
         "mismatch at seed {}, damage {} percent",
         mismatch.seed, mismatch.damage
     );
     let pair = mismatch.pair;
     print_difference(pair, &mismatch.log, &mismatch.expected, &mismatch.actual);
-    let short = check::shorten_for(program, mismatch);
+    let short = check::shorten_for(twin, mismatch);
     println!("shortest failing log found:");
     for line in text::lines(&short) {
         println!("{}", line.escape_ascii());
     }
-    if let Ok((expected, actual)) = pair.answers(program, &short) {
+    if let Ok((expected, actual)) = pair.answers(twin, &short) {
         print_difference(pair, &short, &expected, &actual);
     }
 }
@@ -101,15 +118,17 @@ fn print_difference(pair: check::Pair, log: &[u8], expected: &[u8], actual: &[u8
 }
 
 fn time_both(lines: usize, runs: usize) -> io::Result<ExitCode> {
-    for seed in timing::SEEDS {
-        let log = generate::log(seed, lines, 0);
-        let times = timing::time(&log, runs);
-        println!(
-            "seed {seed}: model {:.0}, library {:.0} lines per second; the library takes {:.2} times as long",
-            times.lines_per_second(times.model),
-            times.lines_per_second(times.library),
-            times.ratio(),
-        );
+    for (sort, name) in [(Sort::Plain, ""), (Sort::Stamped, ", replay")] {
+        for seed in timing::SEEDS {
+            let log = sort.log(seed, lines, 0);
+            let times = timing::time(sort, &log, runs);
+            println!(
+                "seed {seed}{name}: model {:.0}, library {:.0} lines per second; the library takes {:.2} times as long",
+                times.lines_per_second(times.model),
+                times.lines_per_second(times.library),
+                times.ratio(),
+            );
+        }
     }
     Ok(ExitCode::SUCCESS)
 }

@@ -140,6 +140,41 @@ impl Bus {
         }
     }
 
+    /// Lets time pass for every driver, then carries out one event, and gives
+    /// (code, value). If the time does not fit, its number and the event's
+    /// are judged together. A refused event takes its time back.
+    pub fn apply_after(&mut self, ticks: u64, event: Event) -> (u64, u64) {
+        if self.time_would_pass_limit(ticks) {
+            // The numbers below the limit's do not depend on the counts.
+            let own = self.clone().answer(event).err();
+            return (COUNT_LIMIT.min(own.unwrap_or(COUNT_LIMIT)), 0);
+        }
+        self.drivers().for_each(|driver| driver.pass(ticks));
+        let answer = self.apply(event);
+        if answer.0 != 0 {
+            self.drivers().for_each(|driver| driver.take_back(ticks));
+        }
+        answer
+    }
+
+    /// "6 if any driver's count would pass its limit."
+    pub fn time_would_pass_limit(&self, ticks: u64) -> bool {
+        self.devices
+            .iter()
+            .any(|device| device.chip.is_driver() && device.chip.would_pass_limit(ticks))
+    }
+
+    /// "That time goes to every driver"; "blinkers move only by their own wait
+    /// lines".
+    fn drivers(&mut self) -> impl Iterator<Item = &mut Driver> {
+        self.devices
+            .iter_mut()
+            .filter_map(|device| match &mut device.chip {
+                Chip::Driver(driver) => Some(driver),
+                Chip::Blinker(_) => None,
+            })
+    }
+
     fn answer(&mut self, event: Event) -> Answer {
         match event {
             Event::Add { chip, address } => self.add(chip, address),
@@ -456,8 +491,7 @@ impl Chip {
 
     fn advance(&mut self, ticks: u64) {
         match self {
-            Chip::Driver(driver) if driver.awake() => driver.ticks += ticks,
-            Chip::Driver(_) => {}
+            Chip::Driver(driver) => driver.pass(ticks),
             Chip::Blinker(blinker) => blinker.steps += ticks,
         }
     }
@@ -636,6 +670,20 @@ impl Driver {
 
     pub fn awake(&self) -> bool {
         self.mode1() & SLEEP == 0
+    }
+
+    /// "Asleep, t stands still."
+    fn pass(&mut self, ticks: u64) {
+        if self.awake() {
+            self.ticks += ticks;
+        }
+    }
+
+    /// Undoes `pass`, where nothing has happened since.
+    fn take_back(&mut self, ticks: u64) {
+        if self.awake() {
+            self.ticks -= ticks;
+        }
     }
 
     fn answers(&self, address: u8) -> bool {

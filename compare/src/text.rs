@@ -9,9 +9,14 @@ const MAX_DIGITS: usize = 15;
 /// Runs a fresh bus over all lines of the input and gives the answer lines.
 pub fn run(input: &[u8]) -> Vec<u8> {
     let mut bus = Bus::new();
+    answers(input, |line| answer(&mut bus, line))
+}
+
+/// The answer lines to all lines of the input, each answered in turn.
+pub fn answers(input: &[u8], mut answer: impl FnMut(&[u8]) -> (u64, u64)) -> Vec<u8> {
     let mut output = Vec::new();
     for (index, line) in lines(input).enumerate() {
-        let (code, value) = answer(&mut bus, line);
+        let (code, value) = answer(line);
         let text = format!("n={} code={code} value={value}\n", index + 1);
         output.extend_from_slice(text.as_bytes());
     }
@@ -93,7 +98,7 @@ fn number_after(part: &[u8], key: &str) -> Option<u64> {
 }
 
 /// "Decimal of 1 to 15 digits, no leading zero (0 itself is 0)."
-fn decimal(digits: &[u8]) -> Option<u64> {
+pub fn decimal(digits: &[u8]) -> Option<u64> {
     let leading_zero = digits.len() > 1 && digits[0] == b'0';
     let legal_length = (1..=MAX_DIGITS).contains(&digits.len());
     if leading_zero || !legal_length || !digits.iter().all(u8::is_ascii_digit) {

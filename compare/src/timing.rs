@@ -1,6 +1,7 @@
 //! How long the model and the linked library take on the same log. Both read
 //! it from memory, start with an empty bus and make a vector of answers.
 
+use crate::sort::Sort;
 use crate::text;
 use std::hint::black_box;
 use std::time::{Duration, Instant};
@@ -27,13 +28,13 @@ impl Times {
 }
 
 /// Runs both in turn, `runs` times each, after one run that is not timed.
-pub fn time(log: &[u8], runs: usize) -> Times {
-    assert!(text::run(log) == lamptwin::run(log), "the answers differ");
+pub fn time(sort: Sort, log: &[u8], runs: usize) -> Times {
+    assert!(sort.model(log) == sort.library(log), "the answers differ");
     let mut model = Vec::new();
     let mut library = Vec::new();
     for _ in 0..runs {
-        model.push(elapsed(|| text::run(black_box(log))));
-        library.push(elapsed(|| lamptwin::run(black_box(log))));
+        model.push(elapsed(|| sort.model(black_box(log))));
+        library.push(elapsed(|| sort.library(black_box(log))));
     }
     Times {
         lines: text::lines(log).count(),

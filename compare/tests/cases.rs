@@ -1,12 +1,16 @@
 //! Worked cases: pairs of an input and the whole output asked for it.
 
+use compare::sort::Sort;
 use std::fs;
 use std::path::{Path, PathBuf};
 
-fn inputs() -> Vec<PathBuf> {
-    let folder = Path::new(env!("CARGO_MANIFEST_DIR")).join("../tests/cases");
-    let mut paths: Vec<PathBuf> = fs::read_dir(folder)
-        .unwrap()
+/// The inputs in a folder of worked cases, if there is one.
+fn inputs(folder: &str) -> Vec<PathBuf> {
+    let tests = Path::new(env!("CARGO_MANIFEST_DIR")).join("../tests");
+    let Ok(entries) = fs::read_dir(tests.join(folder)) else {
+        return Vec::new();
+    };
+    let mut paths: Vec<PathBuf> = entries
         .map(|entry| entry.unwrap().path())
         .filter(|path| path.extension().is_some_and(|end| end == "in"))
         .collect();
@@ -14,17 +18,26 @@ fn inputs() -> Vec<PathBuf> {
     paths
 }
 
-#[test]
-fn all_cases_pass() {
-    let inputs = inputs();
-    assert!(!inputs.is_empty());
+fn assert_answered(sort: Sort, inputs: Vec<PathBuf>) {
     let mut failed = Vec::new();
     for path in inputs {
         let input = fs::read(&path).unwrap();
         let expected = fs::read(path.with_extension("out")).unwrap();
-        if compare::text::run(&input) != expected {
+        if sort.model(&input) != expected {
             failed.push(path);
         }
     }
     assert!(failed.is_empty(), "failed: {failed:?}");
+}
+
+#[test]
+fn all_cases_pass() {
+    let inputs = inputs("cases");
+    assert!(!inputs.is_empty());
+    assert_answered(Sort::Plain, inputs);
+}
+
+#[test]
+fn all_replays_pass() {
+    assert_answered(Sort::Stamped, inputs("replays"));
 }

@@ -1,7 +1,8 @@
-/* Answers the log on standard input on standard output, as the program lamptwin does. */
+/* Answers the log on standard input on standard output, as the program lamptwin does; a recorded log with the argument replay. */
 #include <stdint.h>
 #include <stdio.h>
 #include <stdlib.h>
+#include <string.h>
 
 #include "lamptwin.h"
 
@@ -42,12 +43,17 @@ static struct bytes read_all(FILE *input)
     return all;
 }
 
-int main(void)
+int main(int count, char **arguments)
 {
+    int replay = count == 2 && strcmp(arguments[1], "replay") == 0;
+    if (count > 1 && !replay) {
+        fprintf(stderr, "usage: %s [replay]\n", arguments[0]);
+        return EXIT_FAILURE;
+    }
     struct bytes log = read_all(stdin);
     size_t room = lamptwin_lines(log.start, log.length) * LAMPTWIN_ANSWER_ROOM;
     uint8_t *answers = allocate(NULL, room);
-    size_t length = lamptwin_run(log.start, log.length, answers, room);
+    size_t length = (replay ? lamptwin_replay : lamptwin_run)(log.start, log.length, answers, room);
     if (fwrite(answers, 1, length, stdout) != length || fflush(stdout) != 0)
         fail("output");
     free(answers);

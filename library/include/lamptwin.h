@@ -3,6 +3,9 @@
  * `./lamptwin --help` lists the lines of a log. An answer line is 'n=LINE code=CODE value=VALUE'; a put's value has bit i set
  * exactly when the device at position i acknowledged.
  *
+ * A recorded log has 'at=STAMP' and a space before each line. The stamp counts driver ticks and goes from 2^32 - 1 to 0; what has
+ * passed since the last accepted line goes to every driver before the event.
+ *
  * Link with liblamptwin_c.a (made by `./build library`). Nothing checks these declarations against the source,
  * crates/lamptwin_c/src/lib.rt; the tests under library/ do. No call keeps a pointer, allocates, or depends on an earlier call. */
 #ifndef LAMPTWIN_H
@@ -18,7 +21,7 @@ extern "C" {
 /* No answer line is longer, its line feed included. */
 #define LAMPTWIN_ANSWER_ROOM 76
 
-/* In both calls a pointer names as many bytes as the length behind it says, and is not null even where that is 0;
+/* In all calls a pointer names as many bytes as the length behind it says, and is not null even where that is 0;
  * a length is at most PTRDIFF_MAX. */
 
 /* The number of lines: a log is split at line feeds, and what follows the last one is a line if it has a byte. */
@@ -28,6 +31,10 @@ size_t lamptwin_lines(const uint8_t *log, size_t log_length);
  * them stay as they were. If answers has fewer than LAMPTWIN_ANSWER_ROOM bytes for each line of the log, it gives 0 and writes
  * nothing. The two areas must not overlap. */
 size_t lamptwin_run(const uint8_t *log, size_t log_length, uint8_t *answers, size_t answers_length);
+
+/* The same for a recorded log: from an empty bus, the first accepted line sets the clock. A refused line does nothing, its time
+ * included, and the clock stays. */
+size_t lamptwin_replay(const uint8_t *log, size_t log_length, uint8_t *answers, size_t answers_length);
 
 #ifdef __cplusplus
 }

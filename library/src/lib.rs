@@ -5,6 +5,10 @@
 //! `./lamptwin --help` lists the lines of a log. An answer line is
 //! `n=LINE code=CODE value=VALUE`; a put's value has bit i set exactly when
 //! the device at position i acknowledged.
+//!
+//! A recorded log has `at=STAMP` and a space before each line. The stamp
+//! counts driver ticks and goes from 2^32 - 1 to 0; what has passed since the
+//! last accepted line goes to every driver before the event.
 
 use std::fmt;
 
@@ -21,7 +25,16 @@ mod declared {
             answers: *mut u8,
             answers_length: usize,
         ) -> usize;
+        pub fn lamptwin_replay(
+            log: *const u8,
+            log_length: usize,
+            answers: *mut u8,
+            answers_length: usize,
+        ) -> usize;
     }
+
+    /// One of the calls above that answer a log.
+    pub type Answering = unsafe extern "C" fn(*const u8, usize, *mut u8, usize) -> usize;
 }
 
 /// The buffer lent for the answers is too short; nothing was written.
@@ -50,12 +63,23 @@ pub fn lines(log: &[u8]) -> usize {
 
 /// Writes the answers to the start of the buffer and gives their length.
 pub fn run_into(log: &[u8], answers: &mut [u8]) -> Result<usize, TooShort> {
+    answer_into(declared::lamptwin_run, log, answers)
+}
+
+/// As `run_into`, for a recorded log.
+pub fn replay_into(log: &[u8], answers: &mut [u8]) -> Result<usize, TooShort> {
+    answer_into(declared::lamptwin_replay, log, answers)
+}
+
+fn answer_into(
+    call: declared::Answering,
+    log: &[u8],
+    answers: &mut [u8],
+) -> Result<usize, TooShort> {
     // SAFETY: both pointers are valid for their lengths and never null, a
-    // shared and a mutable slice cannot overlap, and the library writes
+    // shared and a mutable slice cannot overlap, and either call writes
     // within the second alone, and not at all where it is too short.
-    let written = unsafe {
-        declared::lamptwin_run(log.as_ptr(), log.len(), answers.as_mut_ptr(), answers.len())
-    };
+    let written = unsafe { call(log.as_ptr(), log.len(), answers.as_mut_ptr(), answers.len()) };
     assert!(written <= answers.len(), "the answers fit their buffer");
     if written == 0 && !log.is_empty() {
         let needed = lines(log).saturating_mul(ANSWER_ROOM);
@@ -67,8 +91,17 @@ pub fn run_into(log: &[u8], answers: &mut [u8]) -> Result<usize, TooShort> {
 
 /// The answers to a log.
 pub fn run(log: &[u8]) -> Vec<u8> {
+    all_answers(declared::lamptwin_run, log)
+}
+
+/// The answers to a recorded log.
+pub fn replay(log: &[u8]) -> Vec<u8> {
+    all_answers(declared::lamptwin_replay, log)
+}
+
+fn all_answers(call: declared::Answering, log: &[u8]) -> Vec<u8> {
     let mut answers = vec![0; lines(log).saturating_mul(ANSWER_ROOM)];
-    let written = run_into(log, &mut answers).expect("the buffer has the room asked for");
+    let written = answer_into(call, log, &mut answers).expect("the buffer has the room asked for");
     answers.truncate(written);
     answers
 }
