@@ -1,5 +1,4 @@
 -- The difference around the roll-over, as a number of ticks.
-use Prim.Native.Nat.{_+_, _-_, _%_, _^_}
 use mathlib.Core.Path.{_≡_}
 use native.Mathlib.Omega.{arith}
 use borrow.Author.Needs.{needs}
@@ -11,7 +10,7 @@ returns : tie.Need-returns
 unfolding between
 returns c =
     let a = c .before .args in
-    let q : c .wrapping-sub-u32 .result ≡ (a .later + (2 ^ 32 - a .earlier)) % 2 ^ 32 = omega arith in
+    let q : c .wrapping-sub-u32 .result ≡ between (a .later) (a .earlier) = omega arith in
     (λ m n h k e l. omega arith, rw q)
 
 pub elapsed-spec : {M : Type 1} → statement M
