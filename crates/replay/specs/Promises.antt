@@ -1,16 +1,16 @@
 -- Promises on a replay, for any bus, clock and entry: the code is the least number whose condition holds, and only 6 depends on the time; a refused entry changes nothing;
 -- an accepted one is the waits of its time and its event by hand; no entry changes whether a bus is well formed.
 use mathlib.Core.Path.{_≡_, refl, sym, ap, _∙_}
-use mathlib.Core.Bool.{true, false, not, _||_, or-false}
-use mathlib.Core.List.{List, [], _∷_, _++_, append-assoc}
-use Prim.Native.Nat.{ℕ, _+_, _-_, _%_, _^_, _≤_, _<_}
+use mathlib.Core.Bool.{true, or-false}
+use mathlib.Core.List.{List, [], _∷_}
+use Prim.Native.Nat.{ℕ, _-_, _%_, _^_, _≤_, _<_}
 use native.Mathlib.Omega.{arith}
 use native.Mathlib.Nat.{le-refl}
 use lib.Dec.{eqb}
 use borrow.Author.Tests.{eqb-true, eqb-false, eq-eqb, ne-eqb}
 use Rattle.basics.specs.laws.Logic.{holds, fails, tested}
 use Rattle.lamp.specs.declared.DriverTicks.{DriverTicks}
-use Rattle.refusals.specs.Refusals.{Refusal, refuse, codeOf, holdsAt}
+use Rattle.refusals.specs.Refusals.{refuse, holdsAt}
 use Rattle.refusals.specs.laws.Refusals.{NoneHolds, none-code, none-both, holds-both, Exact}
 use Rattle.bus.specs.Devices.{busOk, emptyBus}
 use Rattle.bus.specs.Replies.{refusedWith}
@@ -33,6 +33,13 @@ use Rattle.replay.specs.declared.Clock.the-variants.{Unset, At}
 use Rattle.replay.specs.declared.Entry.{Entry}
 use Rattle.replay.specs.declared.Entry.the-variants.{Stamped, Unknown}
 use Rattle.replay.specs.declared.Replayed.{Replayed}
+
+-- ---- the time between two stamps
+
+-- of any two tick counts less than 2^32 apart, from their stamps
+pub elapsed-true : (a b : ℕ) → a ≤ b → b - a < 2 ^ 32 → between (b % 2 ^ 32) (a % 2 ^ 32) ≡ b - a
+unfolding between
+elapsed-true a b h k = omega arith
 
 -- ---- the code
 

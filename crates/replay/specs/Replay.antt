@@ -12,7 +12,7 @@ use Rattle.bus.specs.declared.Event.{Event}
 use Rattle.bus.specs.declared.Reply.{Reply}
 use Rattle.replay.specs.Time.{since, overrunsAny, afterTime}
 use Rattle.replay.specs.declared.Clock.{Clock}
-use Rattle.replay.specs.declared.Clock.the-variants.{Unset, At}
+use Rattle.replay.specs.declared.Clock.the-variants.{At}
 use Rattle.replay.specs.declared.Entry.{Entry}
 use Rattle.replay.specs.declared.Entry.the-variants.{Stamped, Unknown}
 use Rattle.replay.specs.declared.Replayed.{Replayed}

@@ -6,8 +6,9 @@ use Rattle.bus.specs.Asked.{askedOf}
 use Rattle.bus.specs.declared.Asked.{Asked}
 use Rattle.bus.specs.declared.Asked.the-variants.{Device, Other}
 use Rattle.bus.specs.declared.Request.{Request}
+use Rattle.text.specs.Read.{Rest, rest}
 use Rattle.script.specs.Parser.{parsed}
-use Rattle.script.specs.Stamped.{parsedEntry}
+use Rattle.script.specs.Stamped.{stampOf, parsedEntry}
 use Rattle.script.specs.declared.twin.Form.{Form}
 use Rattle.script.specs.declared.twin.Form.the-variants.{Plain, Stamped}
 use Rattle.script.specs.declared.twin.Heard.{Heard}
@@ -16,6 +17,11 @@ use Rattle.script.specs.declared.twin.Heard.the-variants as H
 abbrev pub heardAs : Asked → Request → Heard
 heardAs (Device dev q) r = H.Question dev q
 heardAs Other r = H.Request r
+
+-- where the event's line begins
+abbrev pub headOf : Form → List ℕ → Rest
+headOf Plain l = rest l 0
+headOf (Stamped clock) l = stampOf l
 
 unfoldable pub heardBy : Bool → ℕ → Form → List ℕ → Heard
 heardBy ok count Plain l = heardAs (askedOf ok count (parsed l)) (parsed l)

@@ -4,7 +4,7 @@ use mathlib.Core.Bool.{cond}
 use mathlib.Core.List.{List, _++_}
 use lib.Dec.{ltb}
 use Rattle.text.specs.Text.{text, entry}
-use Rattle.text.specs.Read.{Rest, rest, mismatch, keyOf, fieldOf}
+use Rattle.text.specs.Read.{Rest, rest, mismatch, numberIn, keyOf, fieldOf}
 use Rattle.bus.specs.declared.Event.{Event}
 use Rattle.bus.specs.declared.Request.{Request}
 use Rattle.bus.specs.declared.Request.the-variants as R
@@ -23,13 +23,18 @@ StampedInRange at e = (at < 2 ^ 32) × InRange e
 
 -- ---- how it is read
 
+-- past the stamp and its space
+abbrev pub stampOf : List ℕ → Rest
+stampOf l = keyOf (text " ") (fieldOf (text "at=") (rest l 0))
+
+-- the event whose line is left
+abbrev pub requestIn : Rest → Request
+requestIn (rest l n) = parsed l
+requestIn mismatch = R.Unknown
+
 abbrev pub entryBy : ℕ → Request → Entry
 entryBy stamp (R.Known e) = cond (ltb stamp (2 ^ 32)) (Stamped stamp e) Unknown
 entryBy stamp R.Unknown = Unknown
 
-abbrev pub entryFrom : Rest → Entry
-entryFrom (rest l stamp) = entryBy stamp (parsed l)
-entryFrom mismatch = Unknown
-
 unfoldable pub parsedEntry : List ℕ → Entry
-parsedEntry l = entryFrom (keyOf (text " ") (fieldOf (text "at=") (rest l 0)))
+parsedEntry l = entryBy (numberIn (stampOf l)) (requestIn (stampOf l))

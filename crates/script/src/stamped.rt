@@ -1,16 +1,37 @@
 // A stamped line read back as its entry: the stamp, one space, and an event's line.
 ghost use mathlib.Core.Path.{_≡_};
-ghost use Rattle.script.specs.Stamped.{entryBy, parsedEntry};
+ghost use Rattle.text.specs.Read.{restAt};
+ghost use Rattle.script.specs.Stamped.{stampOf, requestIn, entryBy, parsedEntry};
 use crate::parser::parse;
 use bus::Request;
 use replay::Entry;
 use text::Field;
+use text::number_of;
 use text::read_field;
 use text::read_key;
 use text::start;
 
-// With the event that the rest of the line names.
-fn entry_by(stamp: u64, rest: Request) -> Entry
+// Past the stamp and its space.
+pub fn stamp_of(line: &[u8]) -> Field
+    ensures { λ r. ⌜ restAt (now (line .entry)) r ≡ stampOf (now (line .entry)) ⌝ }
+{
+    read_key(line, read_field(line, start(), b"at="), b" ")
+}
+
+// The event whose line the rest is, if there is one.
+pub fn parse_rest(line: &[u8], from: Field) -> Request
+    ensures { λ r. ⌜ r ≡ requestIn (restAt (now (line .entry)) from) ⌝ }
+{
+    let Field::At { at, number: _ } = from else {
+        return Request::Unknown;
+    };
+    if line.len() < at {
+        return Request::Unknown;
+    }
+    parse(&line[at..])
+}
+
+pub fn entry_by(stamp: u64, rest: Request) -> Entry
     ensures { λ r. ⌜ r ≡ entryBy stamp rest ⌝ }
 {
     match rest {
@@ -32,12 +53,7 @@ fn entry_by(stamp: u64, rest: Request) -> Entry
 pub fn parse_entry(line: &[u8]) -> Entry
     ensures { λ r. ⌜ r ≡ parsedEntry (now (line .entry)) ⌝ }
 {
-    let stamp = read_field(line, start(), b"at=");
-    let Field::At { at, number } = read_key(line, stamp, b" ") else {
-        return Entry::Unknown;
-    };
-    if line.len() < at {
-        return Entry::Unknown;
-    }
-    entry_by(number, parse(&line[at..]))
+    let stamp = stamp_of(line);
+    let rest = parse_rest(line, stamp);
+    entry_by(number_of(stamp), rest)
 }

@@ -1,12 +1,16 @@
 // From the bytes of some lines to the bytes of their answers.
 ghost use mathlib.Core.Path.{_≡_};
 ghost use Rattle.bus.specs.Devices.{busOk};
+ghost use Rattle.text.specs.Read.{restAt};
 ghost use Rattle.text.specs.Run.{Runs};
 ghost use Rattle.script.specs.Twin.{firstState, freshState, freshReplay, nextNumber, replyTo, twin};
-ghost use Rattle.script.specs.Heard.{heardAs, heardBy};
+ghost use Rattle.script.specs.Heard.{heardAs, headOf, heardBy};
 use crate::answer::write_answer;
 use crate::parser::parse;
+use crate::stamped::entry_by;
 use crate::stamped::parse_entry;
+use crate::stamped::parse_rest;
+use crate::stamped::stamp_of;
 use bus::Asked;
 use bus::Bus;
 use bus::Question;
@@ -17,7 +21,10 @@ use bus::proved_callers::request_judged;
 use replay::Clock;
 use replay::Entry;
 use replay::proved_callers::step_of;
+use text::Field;
 use text::line_end;
+use text::number_of;
+use text::start;
 
 // What the lines of a log are: events, or events with a stamp before each, and then the clock.
 pub enum Form {
@@ -101,16 +108,26 @@ fn heard_as(asked: Asked, request: Request) -> Heard
     }
 }
 
+// Where the event's line begins, by the form of the lines, with the stamp before it.
+fn head_of(form: Form, line: &[u8]) -> Field
+    ensures { λ r. ⌜ restAt (now (line .entry)) r ≡ headOf form (now (line .entry)) ⌝ }
+{
+    match form {
+        Form::Plain => start(),
+        Form::Stamped(_) => stamp_of(line),
+    }
+}
+
+// An event's line is read in one place for both forms, since a function that one place calls is compiled into it.
 fn hear(ok: bool, count: u8, form: Form, line: &[u8]) -> Heard
     ensures { λ r. ⌜ r ≡ heardBy ok count form (now (line .entry)) ⌝ }
 {
+    let head = head_of(form, line);
+    let request = parse_rest(line, head);
     match form {
-        Form::Plain => {
-            let request = parse(line);
-            heard_as(asked(ok, count, request), request)
-        }
+        Form::Plain => heard_as(asked(ok, count, request), request),
         Form::Stamped(clock) => {
-            let entry = parse_entry(line);
+            let entry = entry_by(number_of(head), request);
             Heard::Entry { clock, entry }
         }
     }

@@ -1,6 +1,6 @@
 -- The waits of an entry by hand: each is accepted where the time fits, and together they are the time.
-use mathlib.Core.Path.{_≡_, refl, sym, ap, _∙_}
-use mathlib.Core.Bool.{true, false, not, _&&_}
+use mathlib.Core.Path.{_≡_, refl, ap, _∙_}
+use mathlib.Core.Bool.{true, false}
 use mathlib.Core.List.{List, [], _∷_, _++_, append-nil}
 use Prim.Native.Nat.{ℕ, zero, suc, _≤_, _<_}
 use native.Mathlib.Omega.{arith}
@@ -19,9 +19,8 @@ use Rattle.device.specs.Wait.{overruns, afterWait}
 use Rattle.device.specs.declared.Device.{Device}
 use Rattle.refusals.specs.Refusals.{least, codeOf}
 use Rattle.refusals.specs.laws.Refusals.{code-both}
-use Rattle.bus.specs.Devices.{busOk, deviceAt, withDevice}
+use Rattle.bus.specs.Devices.{busOk, deviceAt}
 use Rattle.bus.specs.Place.{changeRefusals, placeRefusals, afterChange}
-use Rattle.bus.specs.Replies.{doneWith}
 use Rattle.bus.specs.Events.{stepReply, stepRefusals, stepDone, runBus, runReplies}
 use Rattle.bus.specs.Promises.{run-well}
 use Rattle.bus.specs.laws.Place.{position-free}
@@ -32,7 +31,7 @@ use Rattle.bus.specs.declared.Change.the-variants.{Wait}
 use Rattle.bus.specs.declared.Event.{Event}
 use Rattle.bus.specs.declared.Event.the-variants.{Change}
 use Rattle.bus.specs.declared.Reply.{Reply}
-use Rattle.replay.specs.Time.{fits, waited, overrunsAny, afterTime}
+use Rattle.replay.specs.Time.{fits, waited, overrunsAny}
 use Rattle.replay.specs.ByHand.{waitsBelow, AllAccepted, lastValue}
 use Rattle.replay.specs.laws.Timed.{step-done}
 

@@ -1,6 +1,5 @@
 -- By the code.
 use borrow.Author.Tests.{ne-eqb}
-use borrow.Author.Needs.{needs}
 use Rattle.replay.proofs.entries.clock_after.Statement.{statement}
 use Rattle.replay.proofs.entries.clock_after.Tie as tie
 

@@ -1,5 +1,4 @@
 -- The event after the time, by the code of both.
-use mathlib.Core.Path.{_≡_, sym, ap, _∙_}
 use borrow.Author.Needs.{needs}
 use Rattle.replay.specs.laws.Time.{time-shape}
 use Rattle.replay.specs.laws.Timed.{timed-both, timed-neither}
