@@ -1,6 +1,6 @@
--- The line of each event, and which events have one.
-use Prim.Native.Nat.{ℕ}
-use mathlib.Core.List.{List, []}
+-- The line of each event, plain and stamped, and which events have one.
+use Prim.Native.Nat.{ℕ, _^_, _<_}
+use mathlib.Core.List.{List, [], _++_}
 use Rattle.text.specs.Text.{text, entry, Short}
 use Rattle.bus.specs.declared.Event.{Event}
 use Rattle.bus.specs.declared.Change.the-variants as C
@@ -35,3 +35,13 @@ InRange (E.Change dev (C.Ext level)) = Short dev × Short level
 InRange (E.Change dev C.Reset) = Short dev
 InRange (E.Ask dev (Q.Lit out ticks)) = Short dev × Short out × Short ticks
 InRange (E.Ask dev (Q.Pin out)) = Short dev × Short out
+
+-- ---- with a stamp
+
+-- the bytes of a stamped event's line: the stamp, one space, and the event's line
+abbrev pub stampedLine : ℕ → Event → List ℕ
+stampedLine at e = entry "at=" at (text " " ++ lineOf e)
+
+-- the stamp is one of 32 bits, and every number of the event one that a line can hold
+abbrev pub StampedInRange : ℕ → Event → Type 0
+StampedInRange at e = (at < 2 ^ 32) × InRange e

@@ -7,8 +7,7 @@ use Rattle.bus.specs.declared.Asked.{Asked}
 use Rattle.bus.specs.declared.Asked.the-variants.{Device, Other}
 use Rattle.bus.specs.declared.Request.{Request}
 use Rattle.text.specs.Read.{Rest, rest}
-use Rattle.script.specs.Parser.{parsed}
-use Rattle.script.specs.Stamped.{stampOf, parsedEntry}
+use Rattle.script.specs.Parser.{parsed, stampOf, parsedEntry}
 use Rattle.script.specs.declared.twin.Form.{Form}
 use Rattle.script.specs.declared.twin.Form.the-variants.{Plain, Stamped}
 use Rattle.script.specs.declared.twin.Heard.{Heard}

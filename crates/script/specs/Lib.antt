@@ -1,6 +1,5 @@
 pub mod EventLine
 pub mod Parser
-pub mod Stamped
 pub mod Answer
 pub mod Twin
 pub mod Heard

@@ -1,16 +1,18 @@
 -- The parser as a function of the line's bytes.
-use Prim.Native.Nat.{ℕ}
+use Prim.Native.Nat.{ℕ, _^_}
 use mathlib.Core.Bool.{cond}
 use mathlib.Core.List.{List}
 use lib.ListN.{getD}
-use lib.Dec.{eqb}
+use lib.Dec.{ltb, eqb}
 use Rattle.text.specs.Text.{text}
-use Rattle.text.specs.Read.{Rest, rest, numberIn, isEnd, keyOf, fieldOf}
+use Rattle.text.specs.Read.{Rest, rest, mismatch, numberIn, isEnd, keyOf, fieldOf}
 use Rattle.bus.specs.declared.Event.{Event}
 use Rattle.bus.specs.declared.Change.the-variants as C
 use Rattle.bus.specs.declared.Event.the-variants as E
 use Rattle.bus.specs.declared.Question.the-variants as Q
 use Rattle.bus.specs.declared.SignalEvent.the-variants as B
+use Rattle.replay.specs.declared.Entry.{Entry}
+use Rattle.replay.specs.declared.Entry.the-variants.{Stamped, Unknown}
 use Rattle.script.specs.declared.parser.Shape.{Shape}
 use Rattle.script.specs.declared.parser.Shape.the-variants as S
 use Rattle.script.specs.declared.parser.Numbers.{Numbers}
@@ -81,3 +83,21 @@ finish k n = cond (n .whole) (R.Known (eventOf k n)) R.Unknown
 
 unfoldable pub parsed : List ℕ → Request
 parsed l = finish (shapeOf l) (scanned (shapeOf l) l)
+
+-- ---- stamped lines
+
+-- past the stamp and its space
+abbrev pub stampOf : List ℕ → Rest
+stampOf l = keyOf (text " ") (fieldOf (text "at=") (rest l 0))
+
+-- the event whose line is left
+abbrev pub requestIn : Rest → Request
+requestIn (rest l n) = parsed l
+requestIn mismatch = R.Unknown
+
+abbrev pub entryBy : ℕ → Request → Entry
+entryBy stamp (R.Known e) = cond (ltb stamp (2 ^ 32)) (Stamped stamp e) Unknown
+entryBy stamp R.Unknown = Unknown
+
+unfoldable pub parsedEntry : List ℕ → Entry
+parsedEntry l = entryBy (numberIn (stampOf l)) (requestIn (stampOf l))

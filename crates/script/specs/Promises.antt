@@ -23,9 +23,8 @@ use Rattle.text.specs.laws.Read.{key-read, field-read}
 use Rattle.text.specs.laws.Decimal.{decimal-length}
 use Rattle.text.specs.laws.Run as Run
 use Rattle.script.specs.Answer.{answerLine}
-use Rattle.script.specs.EventLine.{lineOf, InRange}
-use Rattle.script.specs.Parser.{shapeOf, scanned, parsed}
-use Rattle.script.specs.Stamped.{stampedLine, StampedInRange, parsedEntry}
+use Rattle.script.specs.EventLine.{lineOf, InRange, stampedLine, StampedInRange}
+use Rattle.script.specs.Parser.{shapeOf, scanned, parsed, parsedEntry}
 use Rattle.script.specs.Twin.{replyTo, formAfter, nextNumber, afterLine, answerTo, twin}
 use Rattle.script.specs.laws.Parser.{finished, scanned-line, line-scanned, line-length}
 use Rattle.script.specs.laws.Stamped.{entry-sound, stamped-length}

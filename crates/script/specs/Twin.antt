@@ -10,9 +10,8 @@ use Rattle.bus.specs.declared.Reply.{Reply}
 use Rattle.replay.specs.Replay.{replayed}
 use Rattle.replay.specs.declared.Clock.the-variants.{Unset}
 use Rattle.text.specs.Run.{Machine}
-use Rattle.script.specs.Parser.{parsed}
+use Rattle.script.specs.Parser.{parsed, parsedEntry}
 use Rattle.script.specs.Answer.{answerLine}
-use Rattle.script.specs.Stamped.{parsedEntry}
 use Rattle.script.specs.declared.twin.Form.{Form}
 use Rattle.script.specs.declared.twin.Form.the-variants.{Plain, Stamped}
 use Rattle.script.specs.declared.twin.State.{State}

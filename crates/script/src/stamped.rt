@@ -1,7 +1,7 @@
 // A stamped line read back as its entry: the stamp, one space, and an event's line.
 ghost use mathlib.Core.Path.{_≡_};
 ghost use Rattle.text.specs.Read.{restAt};
-ghost use Rattle.script.specs.Stamped.{stampOf, requestIn, entryBy, parsedEntry};
+ghost use Rattle.script.specs.Parser.{stampOf, requestIn, entryBy, parsedEntry};
 use crate::parser::parse;
 use bus::Request;
 use replay::Entry;

@@ -14,8 +14,7 @@ use Rattle.bus.specs.declared.Request.{Request}
 use Rattle.bus.specs.declared.Request.the-variants.{Known}
 use Rattle.replay.specs.declared.Clock.{Clock}
 use Rattle.replay.specs.declared.Entry.{Entry}
-use Rattle.script.specs.Parser.{parsed}
-use Rattle.script.specs.Stamped.{parsedEntry}
+use Rattle.script.specs.Parser.{parsed, parsedEntry}
 use Rattle.script.specs.Heard.{heardAs, heardBy}
 use Rattle.script.specs.declared.twin.Form.{Form}
 use Rattle.script.specs.declared.twin.Form.the-variants.{Plain, Stamped}

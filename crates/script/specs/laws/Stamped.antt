@@ -18,9 +18,8 @@ use Rattle.bus.specs.declared.Event.{Event}
 use Rattle.bus.specs.declared.Request.{Request}
 use Rattle.bus.specs.declared.Request.the-variants as R
 use Rattle.replay.specs.declared.Entry.the-variants.{Stamped, Unknown}
-use Rattle.script.specs.EventLine.{lineOf, InRange}
-use Rattle.script.specs.Parser.{threeOf, parsed}
-use Rattle.script.specs.Stamped.{stampedLine, StampedInRange, stampOf, requestIn, entryBy}
+use Rattle.script.specs.EventLine.{lineOf, InRange, stampedLine, StampedInRange}
+use Rattle.script.specs.Parser.{threeOf, parsed, stampOf, requestIn, entryBy}
 use Rattle.script.specs.laws.Parser.{line-length}
 
 module _ (l : List ℕ) (at : ℕ) (e : Event) where

@@ -18,8 +18,7 @@ use Rattle.replay.specs.declared.Replayed.{Replayed}
 use Rattle.text.specs.Lines.{endOf}
 use Rattle.text.specs.Write.{Written}
 use Rattle.text.specs.laws.Run.{Did, did-more}
-use Rattle.script.specs.Parser.{parsed}
-use Rattle.script.specs.Stamped.{parsedEntry}
+use Rattle.script.specs.Parser.{parsed, parsedEntry}
 use Rattle.script.specs.Answer.{answerLine}
 use Rattle.script.specs.Twin.{replyTo, formAfter, nextNumber, afterLine, answerTo, twin}
 use Rattle.script.specs.Promises.{reply-shape}

@@ -1,7 +1,7 @@
 -- The stamp, and the event whose line is left.
 use denote.Ref.{now}
 use borrow.Author.Needs.{needs}
-use Rattle.script.specs.Stamped.{parsedEntry}
+use Rattle.script.specs.Parser.{parsedEntry}
 use Rattle.script.proofs.stamped.parse_entry.Statement.{statement}
 use Rattle.script.proofs.stamped.parse_entry.Tie as tie
 

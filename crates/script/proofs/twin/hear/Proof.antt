@@ -1,7 +1,7 @@
 -- By the form of the lines.
 use denote.Ref.{now}
 use borrow.Author.Needs.{needs}
-use Rattle.script.specs.Stamped.{parsedEntry}
+use Rattle.script.specs.Parser.{parsedEntry}
 use Rattle.script.specs.Heard.{heardBy}
 use Rattle.script.proofs.twin.hear.Statement.{statement}
 use Rattle.script.proofs.twin.hear.Tie as tie
