@@ -27,18 +27,18 @@ pub fn since(clock: Clock, at: u32) -> DriverTicks
     }
 }
 
-fn has_room(d: Device, ticks: DriverTicks) -> bool
+fn time_fits(d: Device, ticks: DriverTicks) -> bool
     ensures { λ r. ⌜ r ≡ fits ticks d ⌝ }
 {
     !device::wait::driver_overruns(d, ticks)
 }
 
-fn all_have_room(devices: [Device; 8], n: usize, ticks: DriverTicks) -> bool
+fn all_fit(devices: [Device; 8], n: usize, ticks: DriverTicks) -> bool
     requires { ⌜ n ≤ 8 ⌝ }
     ensures { λ r. ⌜ r ≡ allFirst n (fits ticks) devices ⌝ }
 {
     for i in 0..n {
-        if has_room(devices[i], ticks) {} else {
+        if time_fits(devices[i], ticks) {} else {
             return false;
         }
     }
@@ -68,7 +68,7 @@ pub fn overruns_any(ticks: DriverTicks, bus: Bus) -> bool
     ensures { λ r. ⌜ r ≡ overrunsAny ticks bus ⌝ }
 {
     let devices = bus.devices;
-    !all_have_room(devices, places(bus.count), ticks)
+    !all_fit(devices, places(bus.count), ticks)
 }
 
 // Every driver waits.

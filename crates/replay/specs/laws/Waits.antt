@@ -52,7 +52,7 @@ module _ (ticks : DriverTicks) (b : Bus) where
   places-as l = record { phase = b .phase; count = b .count; devices = l }
 
   abbrev timeBelow : ℕ → Bus
-  timeBelow n = record { phase = b .phase; count = b .count; devices = mapFirst n (waited ticks) (b .devices) }
+  timeBelow n = places-as (mapFirst n (waited ticks) (b .devices))
 
   -- what stands for a missing device is asleep
   spare-fits : fits ticks (fresh Pca9635 0) ≡ true

@@ -1,4 +1,4 @@
--- Every driver that has a place has room for the time.
+-- The time fits every driver that has a place.
 use Prim.Native.Nat.{min}
 use mathlib.Core.Path.{_≡_}
 use borrow.Author.Needs.{needs}
@@ -15,7 +15,7 @@ returns c =
     let a = c .before .before .before .args in
     let eight : length (a .bus .devices) ≡ 8 = search (needs, as-long) in
     let k : p .result ≡ min (a .bus .count) (length (a .bus .devices)) = rw eight (p .ensures) in
-    simp (c .all-have-room .ensures, all-few (fits (a .ticks)) (a .bus .devices) (a .bus .count) (p .result) k)
+    simp (c .all-fit .ensures, all-few (fits (a .ticks)) (a .bus .devices) (a .bus .count) (p .result) k)
 
 pub overruns-any-spec : {M : Type 1} → statement M
 overruns-any-spec = tie.close (tie.spec (λ c κs. search needs) (λ c κs. search needs) returns)
