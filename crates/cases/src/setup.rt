@@ -120,3 +120,13 @@ pub fn register(bus: Bus, dev: u64, register: usize) -> u8
     let registers = device.written;
     device::registers::at(registers, register)
 }
+
+// A PCA9635 that is awake and a PCA9531, output 0 of each lit throughout.
+pub fn pair() -> Bus
+    ensures { λ r. ⌜ r ≡ writeReply (writeReply (writeReply (stepReply (stepReply emptyBus (Add 9635 16) .bus) (Add 9531 0) .bus) 16 (0 ∷ 1 ∷ []) .bus) 16 (20 ∷ 1 ∷ []) .bus) 96 (5 ∷ 1 ∷ []) .bus ⌝ }
+{
+    let both = added(one(9635, 16), 9531, 0);
+    let awake = set(both, 16, 0x00, 0x01);
+    let driver = set(awake, 16, 0x14, 0x01);
+    set(driver, 96, 0x05, 0x01)
+}

@@ -10,14 +10,6 @@ use lamp::DriverTicks;
 // 2^48
 const LIMIT: u64 = 281474976710656;
 
-// A PCA9635 that is awake and a PCA9531, output 0 of each lit throughout.
-fn pair() -> Bus {
-    let bus = setup::added(setup::one(9635, 16), 9531, 0);
-    let awake = setup::set(bus, 16, 0x00, 0x01);
-    let driver = setup::set(awake, 16, 0x14, 0x01);
-    setup::set(driver, 96, 0x05, 0x01)
-}
-
 fn asked(n: u64, unit: &[u8], dev: u64) {
     line::number(n);
     line::text(b" ");
@@ -47,7 +39,7 @@ fn wait_on(label: &[u8], bus: Bus, dev: u64, n: u64) {
 }
 
 fn wait(dev: u64, n: u64) {
-    wait_on(b"", pair(), dev, n);
+    wait_on(b"", setup::pair(), dev, n);
 }
 
 fn counted(n: u64, unit: &[u8], dev: u64, out: u64, reply: Reply) {
@@ -60,7 +52,7 @@ fn counted(n: u64, unit: &[u8], dev: u64, out: u64, reply: Reply) {
 }
 
 fn lit(dev: u64, out: u64, n: u64) {
-    let bus = pair();
+    let bus = setup::pair();
     let in_ticks = bus::calls::lit_ticks(bus, dev, out, DriverTicks(n));
     let in_steps = bus::calls::lit_steps(bus, dev, out, BlinkerSteps(n));
     counted(n, b"ticks", dev, out, in_ticks);
