@@ -16,7 +16,7 @@ pub enum Clock {
     At(u32),
 }
 
-// An entry of a recording: an event with its stamp; what is none is refused with 4.
+// An entry of a recording: an event with its stamp; or what is none, which is refused with 4.
 pub enum Entry {
     Stamped { at: u32, event: Event },
     Unknown,

@@ -8,7 +8,7 @@ ghost use Prim.Native.Nat.{ℕ, _-_, _%_, _^_, _≤_, _<_, min};
 ghost use Rattle.basics.specs.First.{mapFirst, allFirst};
 ghost use Rattle.replay.specs.Time.{between, since, fits, waited, overrunsAny, afterTime};
 
-// Later minus earlier around the roll-over: the ticks from a to b, of whose stamps it is.
+// Later minus earlier, around the roll-over: the ticks from a to b, for whatever tick counts a and b the stamps are of.
 pub fn elapsed(later: u32, earlier: u32) -> DriverTicks
     ensures { λ r. ⌜ ((a b : ℕ) → a ≤ b → b - a < 2 ^ 32 → earlier ≡ a % 2 ^ 32 → later ≡ b % 2 ^ 32 → r .0 ≡ b - a) ⌝ }
     ensures { λ r. ⌜ r ≡ record { 0 = between later earlier } ⌝ }
