@@ -4,5 +4,7 @@ pub mod Division
 pub mod Divisors
 pub mod Lists
 pub mod Tabulate
+pub mod Below
+pub mod Parts
 pub mod Bits
 pub mod First

@@ -5,7 +5,7 @@ use mathlib.Core.List.{List, [], _∷_, _++_}
 use lib.Dec.{eqb}
 use Rattle.chip.specs.Kinds.{chipNumbered}
 use Rattle.refusals.specs.Refusals.{Refusal}
-use Rattle.bus.specs.Devices.{deviceAt, withDevice, busAfter}
+use Rattle.bus.specs.Devices.{deviceAt, recordAt, withRecord, busAfter}
 use Rattle.bus.specs.Replies.{refusedWith, doneWith, answer}
 use Rattle.bus.specs.Add.{addRefusals, addedTo}
 use Rattle.bus.specs.Signals.{signalOf, signalRefusals, signalValue}
@@ -24,14 +24,14 @@ use Rattle.bus.specs.declared.SignalEvent.the-variants as S
 unfoldable pub stepRefusals : Bus → Event → List Refusal
 stepRefusals b (Add chip addr) = addRefusals b chip addr
 stepRefusals b (Signal s) = signalRefusals b s
-stepRefusals b (Change dev c) = placeRefusals b dev ++ changeRefusals (deviceAt b dev) c
+stepRefusals b (Change dev c) = placeRefusals b dev ++ changeRefusals (recordAt b dev) c
 stepRefusals b (Ask dev q) = placeRefusals b dev ++ questionRefusals (deviceAt b dev) q
 
 -- the reply where none of them holds; add's value is the position
 unfoldable pub stepDone : Bus → Event → Reply
 stepDone b (Add chip addr) = doneWith (b .count) (addedTo b (chipNumbered chip) addr)
 stepDone b (Signal s) = doneWith (signalValue b s) (busAfter (signalOf s) b)
-stepDone b (Change dev c) = doneWith 0 (withDevice b dev (afterChange (deviceAt b dev) c))
+stepDone b (Change dev c) = doneWith 0 (withRecord b dev (afterChange (recordAt b dev) c))
 stepDone b (Ask dev q) = doneWith (valueOf (deviceAt b dev) q) b
 
 unfoldable pub stepReply : Bus → Event → Reply

@@ -1,16 +1,18 @@
 -- Events and questions for the device at one position.
 use Prim.Native.Nat.{ℕ}
-use mathlib.Core.Bool.{Bool, not, _||_}
+use mathlib.Core.Bool.{Bool, not}
 use mathlib.Core.List.{List, [], _∷_, _++_}
 use lib.Dec.{leb, ltb, eqb}
-use Rattle.lamp.specs.Window.{countLimit}
 use Rattle.chip.specs.Kinds.{isDriver, outputsOf}
 use Rattle.device.specs.Fields.{withOe, withLevels}
 use Rattle.device.specs.Reset.{afterReset}
 use Rattle.device.specs.Output.{litOf, pinOf}
-use Rattle.device.specs.Wait.{overruns, afterWait}
+use Rattle.device.specs.Wait.{isTooLong}
 use Rattle.device.specs.Start.{commonStartOf}
 use Rattle.device.specs.declared.Device.{Device}
+use Rattle.totals.specs.Totals.{recordOf}
+use Rattle.totals.specs.Wait.{exceeds, waited}
+use Rattle.totals.specs.declared.Record.{Record}
 use Rattle.refusals.specs.Refusals.{Refusal, refuse}
 use Rattle.bus.specs.Devices.{busOk, hasDevice, deviceAt}
 use Rattle.bus.specs.Replies.{doneWith, answer}
@@ -31,28 +33,28 @@ placeRefusals b dev = refuse 3 (not (hasDevice b dev)) ∷ refuse 4 (not (busOk 
 abbrev pub levelRefusals : ℕ → ℕ → Bool → List Refusal
 levelRefusals most level wrong = refuse 7 (ltb most level) ∷ refuse 10 wrong ∷ []
 
--- 6 an awake device's count would pass the limit
-unfoldable pub changeRefusals : Device → Change → List Refusal
-changeRefusals d (Wait ticks) = refuse 6 (overruns d ticks) ∷ []
-changeRefusals d (Oe level) = levelRefusals 1 level (not (isDriver (d .chip)))
-changeRefusals d (Ext level) = levelRefusals 255 level (isDriver (d .chip))
-changeRefusals d Reset = []
+-- 6 a wait that is longer than 2^48, or would bring an awake device's count or an output's totals past their limit
+unfoldable pub changeRefusals : Record → Change → List Refusal
+changeRefusals r (Wait ticks) = refuse 6 (exceeds r ticks) ∷ []
+changeRefusals r (Oe level) = levelRefusals 1 level (not (isDriver (r .device .chip)))
+changeRefusals r (Ext level) = levelRefusals 255 level (isDriver (r .device .chip))
+changeRefusals r Reset = []
 
-unfoldable pub afterChange : Device → Change → Device
-afterChange d (Wait ticks) = afterWait d ticks
-afterChange d (Oe level) = withOe d (eqb level 1)
-afterChange d (Ext level) = withLevels d level
-afterChange d Reset = afterReset d
+-- only a wait changes totals
+abbrev pub withChip : Record → Device → Record
+withChip r d = recordOf d (r .lit) (r .unlit)
+
+unfoldable pub afterChange : Record → Change → Record
+afterChange r (Wait ticks) = waited r ticks
+afterChange r (Oe level) = withChip r (withOe (r .device) (eqb level 1))
+afterChange r (Ext level) = withChip r (withLevels (r .device) level)
+afterChange r Reset = withChip r (afterReset (r .device))
 
 -- ---- what asks it
 
 -- no such output
 abbrev pub isMissing : Device → ℕ → Bool
 isMissing d out = leb (outputsOf (d .chip)) out
-
--- as in a wait, and for more than 2^48 ticks
-abbrev pub isTooLong : Device → ℕ → Bool
-isTooLong d ticks = ltb countLimit ticks || overruns d ticks
 
 unfoldable pub questionRefusals : Device → Question → List Refusal
 questionRefusals d (Lit out ticks) = refuse 6 (isTooLong d ticks) ∷ refuse 9 (isMissing d out) ∷ []

@@ -26,6 +26,7 @@ use Rattle.protocol.specs.Put.{acksTo}
 use Rattle.protocol.specs.Guarantees.{Lets, own-address-heard, shared-call-heard}
 use Rattle.refusals.specs.Refusals.{codeOf}
 use Rattle.refusals.specs.laws.Refusals.{Exact}
+use Rattle.basics.specs.Below.{allBelow}
 use Rattle.basics.specs.First.{allFirst}
 use Rattle.bus.specs.Devices.{busOk, deviceAt, emptyBus}
 use Rattle.bus.specs.Replies.{refusedWith, doneWith}
@@ -186,7 +187,7 @@ wait-for-shape b dev w =
     ]
 
 pub empty-well : busOk emptyBus ≡ true
-unfolding busOk allFirst
+unfolding busOk allFirst allBelow
 empty-well = refl
 
 -- and through a run of any events

@@ -1,16 +1,15 @@
 -- wait and lit for a duration, which says its unit: as by a bare number, with 10 for the wrong sort of device.
 use Prim.Native.Nat.{ℕ}
-use mathlib.Core.Bool.{Bool, not, _||_}
+use mathlib.Core.Bool.{Bool, not}
 use mathlib.Core.List.{List, [], _∷_, _++_}
-use lib.Dec.{ltb}
-use Rattle.lamp.specs.Window.{countLimit}
-use Rattle.lamp.specs.Duration.{amount}
 use Rattle.lamp.specs.declared.Duration.{Duration}
-use Rattle.device.specs.Wait.{isOwn, overrunsFor, afterWaitFor}
+use Rattle.device.specs.Wait.{isOwn, isTooLongFor}
 use Rattle.device.specs.Output.{litFor}
 use Rattle.device.specs.declared.Device.{Device}
+use Rattle.totals.specs.Wait.{exceedsFor, waitedFor}
+use Rattle.totals.specs.declared.Record.{Record}
 use Rattle.refusals.specs.Refusals.{Refusal, refuse}
-use Rattle.bus.specs.Devices.{deviceAt, withDevice}
+use Rattle.bus.specs.Devices.{deviceAt, recordAt, withRecord}
 use Rattle.bus.specs.Replies.{doneWith, answer}
 use Rattle.bus.specs.Place.{placeRefusals, isMissing}
 use Rattle.bus.specs.declared.Bus.{Bus}
@@ -20,15 +19,14 @@ use Rattle.bus.specs.declared.Reply.{Reply}
 abbrev pub isForeign : Device → Duration → Bool
 isForeign d w = not (isOwn (d .chip) w)
 
-abbrev pub isTooLongFor : Device → Duration → Bool
-isTooLongFor d w = ltb countLimit (amount w) || overrunsFor d w
+abbrev pub waitRefusals : Record → Duration → List Refusal
+waitRefusals r w = refuse 6 (exceedsFor r w) ∷ refuse 10 (isForeign (r .device) w) ∷ []
 
 abbrev pub waitForRefusals : Bus → ℕ → Duration → List Refusal
-waitForRefusals b dev w =
-    placeRefusals b dev ++ refuse 6 (overrunsFor (deviceAt b dev) w) ∷ refuse 10 (isForeign (deviceAt b dev) w) ∷ []
+waitForRefusals b dev w = placeRefusals b dev ++ waitRefusals (recordAt b dev) w
 
 unfoldable pub waitForReply : Bus → ℕ → Duration → Reply
-waitForReply b dev w = answer (waitForRefusals b dev w) b (doneWith 0 (withDevice b dev (afterWaitFor (deviceAt b dev) w)))
+waitForReply b dev w = answer (waitForRefusals b dev w) b (doneWith 0 (withRecord b dev (waitedFor (recordAt b dev) w)))
 
 abbrev pub litForRefusals : Bus → ℕ → ℕ → Duration → List Refusal
 litForRefusals b dev out w =

@@ -1,5 +1,6 @@
 pub mod Asked
 pub mod Place
+pub mod Records
 pub mod Replies
 pub mod Runs
 pub mod Signals

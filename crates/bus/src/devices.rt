@@ -3,20 +3,26 @@ use crate::Bus;
 use chip::Chip;
 use device::Device;
 use device::Phase;
+use lamp::Duration;
 use protocol::Signal;
 ghost use mathlib.Core.Path.{_≡_};
-ghost use mathlib.Core.Bool.{cond};
+ghost use mathlib.Core.Bool.{false, cond};
 ghost use Prim.Native.Nat.{_≤_, _<_};
-ghost use lib.ListN.{set};
+ghost use lib.ListN.{length, set};
 ghost use Rattle.chip.specs.declared.Chip.the-variants.{Pca9635};
+ghost use Rattle.basics.specs.Below.{allBelow};
 ghost use Rattle.basics.specs.Bits.{maskFirst};
+ghost use Rattle.basics.specs.Parts.{withPart};
 ghost use Rattle.device.specs.Reset.{fresh};
 ghost use Rattle.device.specs.WellFormed.{wellFormed};
 ghost use Rattle.protocol.specs.Put.{acksTo};
 ghost use Rattle.protocol.specs.Read.{talkOf};
 ghost use Rattle.protocol.specs.Signals.{afterSignal};
 ghost use Rattle.basics.specs.First.{mapFirst, allFirst, andFirst};
-ghost use Rattle.bus.specs.Devices.{busOk, hasDevice, deviceAt, withDevice, withAdded, busAfter, emptyBus};
+ghost use Rattle.totals.specs.Totals.{zeros};
+ghost use Rattle.totals.specs.Wait.{exceedsFor, waitedFor};
+ghost use Rattle.bus.specs.Devices.{busOk, hasDevice, deviceAt, recordAt, withDevice, withRecord, withAdded, busAfter, emptyBus};
+ghost use Rattle.bus.specs.laws.Records.{fitsAt};
 
 // A bus with no device and no message.
 pub fn empty() -> Bus
@@ -26,6 +32,18 @@ pub fn empty() -> Bus
         phase: Phase::Idle,
         count: 0,
         devices: [device::fresh(Chip::Pca9635, 0); 8],
+        lit: [0; 128],
+        unlit: [0; 128],
+    }
+}
+
+// Every number of a lent part becomes 0.
+fn clear(part: &mut [u64])
+    requires { ⌜ length (now part) ≡ 16 ⌝ }
+    ensures { λ r. ⌜ now (part .exit) ≡ zeros ⌝ }
+{
+    for i in 0..16 {
+        part[i] = 0;
     }
 }
 
@@ -41,13 +59,37 @@ fn all_ok(devices: [Device; 8], n: usize, phase: Phase) -> bool
     true
 }
 
+// The totals of each of the first n devices can be handed in.
+fn all_fit(devices: [Device; 8], lit: [u64; 128], unlit: [u64; 128], n: usize) -> bool
+    requires { ⌜ n ≤ 8 ⌝ }
+    ensures { λ r. ⌜ r ≡ allBelow n (fitsAt devices lit unlit) ⌝ }
+{
+    for i in 0..n {
+        let d = devices[i];
+        let chip = d.chip;
+        let a = 16 * i;
+        let e = a + 16;
+        if totals::fit(chip, &lit[a..e], &unlit[a..e]) {} else {
+            return false;
+        }
+    }
+    true
+}
+
 pub fn is_ok(bus: Bus) -> bool
     ensures { λ r. ⌜ r ≡ busOk bus ⌝ }
 {
     if bus.count <= 8 {
         let devices = bus.devices;
         let phase = bus.phase;
-        all_ok(devices, bus.count as usize, phase)
+        let lit = bus.lit;
+        let unlit = bus.unlit;
+        let n = bus.count as usize;
+        if all_ok(devices, n, phase) {
+            all_fit(devices, lit, unlit, n)
+        } else {
+            false
+        }
     } else {
         false
     }
@@ -93,15 +135,64 @@ pub fn with_device(bus: Bus, dev: u64, d: Device) -> Bus
     next
 }
 
+// The totals of a device that is just added are 0, whatever stood at its position.
+fn cleared(totals: [u64; 128], dev: usize) -> [u64; 128]
+    requires { ⌜ dev < 8 ⌝ }
+    ensures { λ r. ⌜ r ≡ withPart 8 16 dev zeros totals ⌝ }
+{
+    let mut next = totals;
+    let a = 16 * dev;
+    let e = a + 16;
+    clear(&mut next[a..e]);
+    next
+}
+
 pub fn with_added(bus: Bus, d: Device) -> Bus
     requires { ⌜ bus .count < 8 ⌝ }
     ensures { λ r. ⌜ r ≡ withAdded bus d ⌝ }
 {
     let devices = bus.devices;
+    let lit = bus.lit;
+    let unlit = bus.unlit;
     let after = with_element(devices, bus.count as u64, d);
+    let lit_after = cleared(lit, bus.count as usize);
+    let unlit_after = cleared(unlit, bus.count as usize);
     let mut next = bus;
     next.count = bus.count + 1;
     next.devices = after;
+    next.lit = lit_after;
+    next.unlit = unlit_after;
+    next
+}
+
+// Whether a wait would bring the device at a position past a limit.
+pub fn exceeds_at(bus: Bus, dev: usize, duration: Duration) -> bool
+    requires { ⌜ dev < 8 ⌝ }
+    ensures { λ r. ⌜ r ≡ exceedsFor (recordAt bus dev) duration ⌝ }
+{
+    let lit = bus.lit;
+    let unlit = bus.unlit;
+    let a = 16 * dev;
+    let e = a + 16;
+    let d = device_at(bus, dev as u64);
+    totals::exceeds(d, &lit[a..e], &unlit[a..e], duration)
+}
+
+// The bus once the device at a position has waited.
+pub fn with_waited(bus: Bus, dev: usize, duration: Duration) -> Bus
+    requires { ⌜ (dev < 8) × (exceedsFor (recordAt bus dev) duration ≡ false) ⌝ }
+    ensures { λ r. ⌜ r ≡ withRecord bus dev (waitedFor (recordAt bus dev) duration) ⌝ }
+{
+    let mut lit = bus.lit;
+    let mut unlit = bus.unlit;
+    let a = 16 * dev;
+    let e = a + 16;
+    let d = device_at(bus, dev as u64);
+    let after = totals::wait(d, duration, &mut lit[a..e], &mut unlit[a..e]);
+    let mut next = bus;
+    next.devices[dev] = after;
+    next.lit = lit;
+    next.unlit = unlit;
     next
 }
 
@@ -124,10 +215,14 @@ pub fn after(signal: Signal, bus: Bus) -> Bus
     let phase = bus.phase;
     let devices = bus.devices;
     let next = all_after(devices, bus.count as usize, phase, signal);
+    let lit = bus.lit;
+    let unlit = bus.unlit;
     Bus {
         phase: protocol::signals::phase_after_signal(phase, signal),
         count: bus.count,
         devices: next,
+        lit: lit,
+        unlit: unlit,
     }
 }
 

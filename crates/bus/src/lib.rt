@@ -20,10 +20,13 @@ pub use place::answer_of;
 pub use replies::done;
 pub use replies::refused;
 
+// The totals of the device at position i are the 16 from 16 * i on.
 pub struct Bus {
     pub phase: Phase,
     pub count: u8,
     pub devices: [Device; 8],
+    pub lit: [u64; 128],
+    pub unlit: [u64; 128],
 }
 
 // The number of a refusal, or 0; the value; and the bus afterwards.

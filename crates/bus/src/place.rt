@@ -9,10 +9,11 @@ use refusals::least;
 use refusals::or_refused;
 ghost use mathlib.Core.Path.{_≡_};
 ghost use mathlib.Core.Bool.{cond};
+ghost use Prim.Native.Nat.{_<_};
 ghost use lib.Dec.{eqb};
 ghost use Rattle.refusals.specs.Refusals.{codeOf};
 ghost use Rattle.bus.specs.declared.Event.the-variants as E;
-ghost use Rattle.bus.specs.Devices.{busOk};
+ghost use Rattle.bus.specs.Devices.{busOk, recordAt, withRecord};
 ghost use Rattle.bus.specs.Place.{placeRefusals, levelRefusals, changeRefusals, afterChange, isMissing, questionRefusals, valueOf, blinkRefusals, blinkReply};
 ghost use Rattle.bus.specs.Events.{stepReply};
 
@@ -30,32 +31,52 @@ fn level_code(most: u64, level: u64, wrong: bool) -> u64
     or_refused(or_refused(0, 7, most < level), 10, wrong)
 }
 
-fn change_code(d: Device, change: Change) -> u64
-    ensures { λ r. ⌜ r ≡ codeOf (changeRefusals d change) ⌝ }
+fn change_code(bus: Bus, dev: usize, change: Change) -> u64
+    requires { ⌜ dev < 8 ⌝ }
+    ensures { λ r. ⌜ r ≡ codeOf (changeRefusals (recordAt bus dev) change) ⌝ }
 {
+    let d = crate::devices::device_at(bus, dev as u64);
     let chip = d.chip;
     match change {
-        Change::Wait(ticks) => or_refused(
-            0,
-            6,
-            device::wait::overruns(d, device::wait::own_duration(chip, ticks)),
-        ),
+        Change::Wait(ticks) => {
+            let own = device::wait::own_duration(chip, ticks);
+            or_refused(0, 6, crate::devices::exceeds_at(bus, dev, own))
+        }
         Change::Oe(level) => level_code(1, level, !chip::is_driver(chip)),
         Change::Ext(level) => level_code(255, level, chip::is_driver(chip)),
         Change::Reset => 0,
     }
 }
 
-fn after_change(d: Device, change: Change) -> Device
-    requires { ⌜ codeOf (changeRefusals d change) ≡ 0 ⌝ }
-    ensures { λ r. ⌜ r ≡ afterChange d change ⌝ }
+// The bus once the device at a position has changed, its totals too where it has waited.
+fn changed(bus: Bus, dev: usize, change: Change) -> Bus
+    requires { ⌜ (dev < 8) × (codeOf (changeRefusals (recordAt bus dev) change) ≡ 0) ⌝ }
+    ensures { λ r. ⌜ r ≡ withRecord bus dev (afterChange (recordAt bus dev) change) ⌝ }
 {
+    let at = dev as u64;
+    let d = crate::devices::device_at(bus, at);
     let chip = d.chip;
     match change {
-        Change::Wait(ticks) => device::wait::after_wait(d, device::wait::own_duration(chip, ticks)),
-        Change::Oe(level) => device::with_oe(d, level == 1),
-        Change::Ext(level) => device::with_levels(d, level as u8),
-        Change::Reset => device::after_reset(d),
+        Change::Wait(ticks) => {
+            crate::devices::with_waited(bus, dev, device::wait::own_duration(chip, ticks))
+        }
+        Change::Oe(level) => crate::devices::with_device(bus, at, device::with_oe(d, level == 1)),
+        Change::Ext(level) => {
+            crate::devices::with_device(bus, at, device::with_levels(d, level as u8))
+        }
+        Change::Reset => crate::devices::with_device(bus, at, device::after_reset(d)),
+    }
+}
+
+fn change_at(bus: Bus, dev: usize, change: Change) -> Reply
+    requires { ⌜ (dev < 8) × (codeOf (placeRefusals bus dev) ≡ 0) ⌝ }
+    ensures { λ r. ⌜ r ≡ stepReply bus (E.Change dev change) ⌝ }
+{
+    let code = change_code(bus, dev, change);
+    if code == 0 {
+        crate::done(0, changed(bus, dev, change))
+    } else {
+        crate::refused(bus, code)
     }
 }
 
@@ -63,11 +84,9 @@ pub fn change(ok: bool, bus: Bus, dev: u64, change: Change) -> Reply
     requires { ⌜ ok ≡ busOk bus ⌝ }
     ensures { λ r. ⌜ r ≡ stepReply bus (E.Change dev change) ⌝ }
 {
-    let d = crate::devices::device_at(bus, dev);
-    let code = least(place_code(ok, bus, dev), change_code(d, change));
+    let code = place_code(ok, bus, dev);
     if code == 0 {
-        let next = after_change(d, change);
-        crate::done(0, crate::devices::with_device(bus, dev, next))
+        change_at(bus, dev as usize, change)
     } else {
         crate::refused(bus, code)
     }
@@ -86,7 +105,7 @@ fn question_code(d: Device, question: Question) -> u64
     let chip = d.chip;
     match question {
         Question::Lit { out, ticks } => {
-            let long = crate::units::is_too_long(d, device::wait::own_duration(chip, ticks));
+            let long = device::wait::is_too_long(d, device::wait::own_duration(chip, ticks));
             or_refused(or_refused(0, 6, long), 9, is_missing(d, out))
         }
         Question::Pin(out) => or_refused(0, 9, is_missing(d, out)),

@@ -38,7 +38,7 @@ pub fn one(chip: u64, address: u64) -> Bus
 
 // A bus with one device as handed in.
 pub fn holding(device: Device) -> Bus
-    ensures { λ r. ⌜ r ≡ withDevice (record { phase = Idle; count = 1; devices = emptyBus .devices }) 0 device ⌝ }
+    ensures { λ r. ⌜ r ≡ withDevice (record { phase = Idle; count = 1; devices = emptyBus .devices; lit = emptyBus .lit; unlit = emptyBus .unlit }) 0 device ⌝ }
 {
     let mut bus = bus::empty();
     bus.count = 1;
@@ -46,7 +46,7 @@ pub fn holding(device: Device) -> Bus
 }
 
 pub fn with_count(bus: Bus, count: u8) -> Bus
-    ensures { λ r. ⌜ r ≡ record { phase = bus .phase; count = count; devices = bus .devices } ⌝ }
+    ensures { λ r. ⌜ r ≡ record { phase = bus .phase; count = count; devices = bus .devices; lit = bus .lit; unlit = bus .unlit } ⌝ }
 {
     let mut next = bus;
     next.count = count;
@@ -54,13 +54,17 @@ pub fn with_count(bus: Bus, count: u8) -> Bus
 }
 
 pub fn in_phase(bus: Bus, phase: Phase) -> Bus
-    ensures { λ r. ⌜ r ≡ record { phase = phase; count = bus .count; devices = bus .devices } ⌝ }
+    ensures { λ r. ⌜ r ≡ record { phase = phase; count = bus .count; devices = bus .devices; lit = bus .lit; unlit = bus .unlit } ⌝ }
 {
     let devices = bus.devices;
+    let lit = bus.lit;
+    let unlit = bus.unlit;
     Bus {
         phase: phase,
         count: bus.count,
         devices: devices,
+        lit: lit,
+        unlit: unlit,
     }
 }
 

@@ -50,9 +50,12 @@ lsOf d out = pairOf (held d (ls0 + out / 4)) out
 abbrev pub blinkOf : ℕ → ℕ
 blinkOf ls = cond (eqb ls 3) 2 0
 
+-- an output with these LS bits
+abbrev pub blinkerBy : Device → ℕ → BlinkerMode
+blinkerBy d ls = blinkerMode (d .chip) ls (held d (psc0 + blinkOf ls)) (held d (blinkPwm0 + blinkOf ls))
+
 unfoldable pub blinkerOutput : Device → ℕ → BlinkerMode
-blinkerOutput d out =
-    blinkerMode (d .chip) (lsOf d out) (held d (psc0 + blinkOf (lsOf d out))) (held d (blinkPwm0 + blinkOf (lsOf d out)))
+blinkerOutput d out = blinkerBy d (lsOf d out)
 
 -- ---- any device
 

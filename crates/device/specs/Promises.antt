@@ -24,6 +24,11 @@ pub reset-well : (p : Phase) (d : Device) → recordOk d ≡ true → wellFormed
 unfolding afterReset
 reset-well p d h = well p (afterReset d) (record { legal = reset-legal (d .chip); allowed = ok d h .allowed; within = zero-within }) refl
 
+-- the kind stays
+pub reset-kind : (d : Device) → afterReset d .chip ≡ d .chip
+unfolding afterReset
+reset-kind d = refl
+
 pub oe-well : (p : Phase) (oe : Bool) (d : Device) → wellFormed p d ≡ true → wellFormed p (withOe d oe) ≡ true
 oe-well p oe d h = well p (withOe d oe) (ok d (well-formed-ok p d h)) (fits p d h)
 

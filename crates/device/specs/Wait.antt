@@ -1,7 +1,7 @@
 -- Time (RULES, Events, and Refusals, 6). The count is in the device's own unit: ticks of a driver, steps of a blinker.
 use Prim.Native.Nat.{ℕ, _+_}
-use mathlib.Core.Bool.{Bool, not, _&&_, cond}
-use lib.Dec.{leb}
+use mathlib.Core.Bool.{Bool, not, _&&_, _||_, cond}
+use lib.Dec.{leb, ltb}
 use Rattle.lamp.specs.Window.{countLimit}
 use Rattle.lamp.specs.Duration.{amount}
 use Rattle.lamp.specs.declared.Duration.{Duration}
@@ -17,6 +17,10 @@ use Rattle.device.specs.declared.Device.{Device}
 -- an awake device's count would pass the limit
 unfoldable pub overruns : Device → ℕ → Bool
 overruns d w = isAwake d && not (leb (d .count + w) countLimit)
+
+-- as well, or a wait that is longer than 2^48 by itself: a lit question for it is refused
+abbrev pub isTooLong : Device → ℕ → Bool
+isTooLong d w = ltb countLimit w || overruns d w
 
 -- the count after a wait; one that would pass the limit, which every call refuses, leaves it
 unfoldable pub advanced : ℕ → ℕ → ℕ
@@ -40,6 +44,9 @@ ownDuration chip n = cond (isDriver chip) (Ticks (record { 0 = n })) (Steps (rec
 -- ticks are never added to a blinker's count, nor steps to a driver's
 abbrev pub overrunsFor : Device → Duration → Bool
 overrunsFor d w = isOwn (d .chip) w && overruns d (amount w)
+
+abbrev pub isTooLongFor : Device → Duration → Bool
+isTooLongFor d w = ltb countLimit (amount w) || overrunsFor d w
 
 abbrev pub afterWaitFor : Device → Duration → Device
 afterWaitFor d w = cond (isOwn (d .chip) w) (afterWait d (amount w)) d

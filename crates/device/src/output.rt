@@ -6,11 +6,16 @@ use lamp::BlinkerMode;
 use lamp::BlinkerSteps;
 use lamp::DriverMode;
 use lamp::DriverTicks;
+use lamp::Shared;
 ghost use mathlib.Core.Path.{_≡_};
 ghost use mathlib.Core.Bool.{cond};
+ghost use Prim.Native.Nat.{_+_, _<_};
 ghost use Rattle.lamp.specs.declared.Duration.the-variants.{Ticks, Steps};
 ghost use Rattle.chip.specs.Kinds.{outputsOf};
-ghost use Rattle.device.specs.Output.{pairOf, driverOutput, blinkerMode, blinkOf, blinkerOutput, litNow, litFor, undriven, disabledPin, driverPin, pinOf, inputBit, inputByte};
+ghost use Rattle.chip.specs.Registers.{pwm0};
+ghost use Rattle.device.specs.Registers.{inEffect};
+ghost use Rattle.device.specs.laws.Output.{grppwmOf, driverShared, sharedOutput};
+ghost use Rattle.device.specs.Output.{pairOf, ledoutOf, driverOutput, blinkerMode, lsOf, blinkOf, blinkerBy, blinkerOutput, litNow, litFor, undriven, disabledPin, driverPin, pinOf, inputBit, inputByte};
 
 // The levels of a pin.
 const LOW: u64 = 0;
@@ -34,13 +39,21 @@ fn pair(byte: u8, out: u8) -> u8
     }
 }
 
+fn ledout_of(d: Device, out: u8) -> u8
+    ensures { λ r. ⌜ r ≡ ledoutOf d (outputsOf (d .chip)) out ⌝ }
+{
+    let chip = d.chip;
+    let map = chip::register_map(chip);
+    let group = map.ledout0 as usize + out as usize / 4;
+    pair(registers::in_effect(d, group), out)
+}
+
 fn driver_output(d: Device, out: u8) -> DriverMode
     ensures { λ r. ⌜ r ≡ driverOutput d (outputsOf (d .chip)) out ⌝ }
 {
     let chip = d.chip;
     let map = chip::register_map(chip);
-    let group = map.ledout0 as usize + out as usize / 4;
-    let ledout = pair(registers::in_effect(d, group), out);
+    let ledout = ledout_of(d, out);
     let pwm = registers::in_effect(d, chip::PWM0 as usize + out as usize);
     let grppwm = registers::in_effect(d, map.grppwm as usize);
     let grpfreq = registers::in_effect(d, map.grpfreq as usize);
@@ -85,19 +98,34 @@ fn blink_of(ls: u8) -> u8
     if ls == 3 { 2 } else { 0 }
 }
 
-fn blinker_output(d: Device, out: u8) -> BlinkerMode
-    ensures { λ r. ⌜ r ≡ blinkerOutput d out ⌝ }
+// An output's two LS bits.
+pub fn ls_of(d: Device, out: u8) -> u8
+    ensures { λ r. ⌜ r ≡ lsOf d out ⌝ }
+    ensures { λ r. ⌜ r < 4 ⌝ }
+{
+    let written = d.written;
+    pair(
+        registers::at(written, chip::LS0 as usize + out as usize / 4),
+        out,
+    )
+}
+
+// What an output with these LS bits follows.
+pub fn blinker_by(d: Device, ls: u8) -> BlinkerMode
+    ensures { λ r. ⌜ r ≡ blinkerBy d ls ⌝ }
 {
     let chip = d.chip;
     let written = d.written;
-    let ls = pair(
-        registers::at(written, chip::LS0 as usize + out as usize / 4),
-        out,
-    );
     let blink = blink_of(ls) as usize;
     let psc = registers::at(written, chip::PSC0 as usize + blink);
     let pwm = registers::at(written, chip::BLINK_PWM0 as usize + blink);
     blinker_mode(chip, ls, psc, pwm)
+}
+
+fn blinker_output(d: Device, out: u8) -> BlinkerMode
+    ensures { λ r. ⌜ r ≡ blinkerOutput d out ⌝ }
+{
+    blinker_by(d, ls_of(d, out))
 }
 
 // The rules' "lit", at the present count.
@@ -142,6 +170,35 @@ pub fn blinker_lit(d: Device, out: u8, steps: BlinkerSteps) -> BlinkerSteps
     } else {
         lamp::blinker_lit_steps(blinker_output(d, out), BlinkerSteps(d.count), steps)
     }
+}
+
+// What all outputs of a driver share over a wait; with it, the lit ticks of one of them.
+pub fn driver_shared(d: Device, ticks: DriverTicks) -> Shared
+    ensures { λ r. ⌜ r ≡ driverShared d (ticks .0) ⌝ }
+    ensures { λ r. ⌜ grppwmOf d < 256 ⌝ }
+{
+    let chip = d.chip;
+    let map = chip::register_map(chip);
+    let grppwm = registers::in_effect(d, map.grppwm as usize);
+    let grpfreq = registers::in_effect(d, map.grpfreq as usize);
+    let blinking = registers::is_blinking(d.written[chip::MODE2 as usize]);
+    let awake = registers::is_awake(d);
+    lamp::driver_shared(
+        awake,
+        blinking,
+        grppwm,
+        grpfreq,
+        DriverTicks(d.count),
+        ticks,
+    )
+}
+
+pub fn shared_output(d: Device, out: u8, s: Shared) -> DriverTicks
+    ensures { λ r. ⌜ r .0 ≡ sharedOutput d out s ⌝ }
+    ensures { λ r. ⌜ inEffect d (pwm0 + out) < 256 ⌝ }
+{
+    let pwm = registers::in_effect(d, chip::PWM0 as usize + out as usize);
+    lamp::shared_lit(ledout_of(d, out), pwm, s)
 }
 
 fn undriven(d: Device) -> u64

@@ -6,7 +6,7 @@ use lamp::DriverTicks;
 use lamp::Duration;
 ghost use mathlib.Core.Path.{_≡_};
 ghost use Rattle.lamp.specs.declared.Duration.the-variants.{Ticks, Steps};
-ghost use Rattle.device.specs.Wait.{advanced, isOwn, ownDuration, overrunsFor, afterWaitFor};
+ghost use Rattle.device.specs.Wait.{advanced, isOwn, ownDuration, overrunsFor, isTooLongFor, afterWaitFor};
 
 // A bare number of ticks, as the events have it, in the unit of the chip's kind.
 pub fn own_duration(chip: Chip, n: u64) -> Duration
@@ -62,6 +62,17 @@ pub fn overruns(d: Device, duration: Duration) -> bool
     match duration {
         Duration::Ticks(ticks) => driver_overruns(d, ticks),
         Duration::Steps(steps) => blinker_overruns(d, steps),
+    }
+}
+
+// The same, or longer than the limit by itself.
+pub fn is_too_long(d: Device, duration: Duration) -> bool
+    ensures { λ r. ⌜ r ≡ isTooLongFor d duration ⌝ }
+{
+    if lamp::is_above_limit(duration) {
+        true
+    } else {
+        overruns(d, duration)
     }
 }
 

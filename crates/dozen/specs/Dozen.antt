@@ -8,7 +8,11 @@ use Rattle.basics.specs.Divisors.{euclid, gcdOf, lcmOf}
 use Rattle.blink.specs.Start.{commonStart}
 use Rattle.bus.specs.Devices.{emptyBus, busOk}
 use Rattle.bus.specs.Events.{stepReply, stepRefusals, stepDone}
+use Rattle.basics.specs.Below.{allBelow}
 use Rattle.basics.specs.Bits.{maskFirst}
+use Rattle.basics.specs.Parts.{part, withPart}
+use Rattle.totals.specs.Totals.{totalsWithin, raised}
+use Rattle.totals.specs.Wait.{exceeds, waited}
 use Rattle.basics.specs.First.{mapFirst, allFirst, andFirst}
 use Rattle.refusals.specs.Refusals.{least, codeOf}
 use Rattle.bus.specs.Place.{changeRefusals, afterChange, questionRefusals, valueOf, blinkReply}
@@ -133,5 +137,5 @@ allPass [] = true
 allPass (row ∷ l) = passes emptyBus row && allPass l
 
 pub dozen : allPass table ≡ true
-unfolding allPass table passes euclid gcdOf lcmOf commonStart busOk stepReply stepRefusals stepDone mapFirst allFirst maskFirst andFirst least codeOf answer changeRefusals afterChange questionRefusals valueOf blinkReply addressAllowed controlLegal controlMoved pointed isBuffered resetRegisters storedByte readByte driverOutput blinkerOutput lampLit litOf pinOf inputByte inEffect isAwake afterReset overruns advanced afterWait recordOk wellFormed litBelow litFrom blinkerLit individual grouped driverLit litTicks countedTicks afterPut acksTo registerByte pointedByte talkOf afterTalk afterGet ownAddress answersShared answers stageAfterAddress phaseAfterSignal afterSignal tabulate committed afterCommit afterStop afterControl newByte effectiveAfterData wakes countAfterData afterData afterByte acksData
+unfolding allPass table passes euclid gcdOf lcmOf commonStart busOk stepReply stepRefusals stepDone mapFirst allFirst maskFirst andFirst least codeOf answer changeRefusals afterChange questionRefusals valueOf blinkReply addressAllowed controlLegal controlMoved pointed isBuffered resetRegisters storedByte readByte driverOutput blinkerOutput lampLit litOf pinOf inputByte inEffect isAwake afterReset overruns advanced afterWait allBelow part withPart totalsWithin raised exceeds waited recordOk wellFormed litBelow litFrom blinkerLit individual grouped driverLit litTicks countedTicks afterPut acksTo registerByte pointedByte talkOf afterTalk afterGet ownAddress answersShared answers stageAfterAddress phaseAfterSignal afterSignal tabulate committed afterCommit afterStop afterControl newByte effectiveAfterData wakes countAfterData afterData afterByte acksData
 dozen = refl

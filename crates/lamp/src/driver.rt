@@ -1,6 +1,7 @@
 // When an output of a driver is lit, and for how many ticks of a window.
 use crate::DriverMode;
 use crate::DriverTicks;
+use crate::Group;
 use crate::count;
 ghost use mathlib.Core.Path.{_≡_};
 ghost use Prim.Native.Nat.{_*_, _<_};
@@ -35,13 +36,13 @@ pub fn driver_mode(ledout: u8, dmblnk: bool, pwm: u8, grppwm: u8, grpfreq: u8) -
     }
 }
 
-// Individual brightness and a group test that holds for the first `on` ticks of each `period`.
-fn grouped(period: u64, on: u64, pwm: u8, at: u64) -> bool
-    requires { ⌜ 0 < period ⌝ }
-    ensures { λ r. ⌜ r ≡ grouped period on pwm at ⌝ }
+// Individual brightness and a group test.
+fn grouped(group: Group, pwm: u8, at: u64) -> bool
+    requires { ⌜ 0 < group .period ⌝ }
+    ensures { λ r. ⌜ r ≡ grouped (group .period) (group .on) pwm at ⌝ }
 {
     if at % 256 < pwm as u64 {
-        at % period < on
+        at % group.period < group.on
     } else {
         false
     }
@@ -68,6 +69,25 @@ fn blink_on(grppwm: u8, grpfreq: u8) -> u64
     grppwm as u64 * (grpfreq as u64 + 1) * 4096
 }
 
+// The group test of dimming, and that of blinking.
+pub fn dimming_group(grppwm: u8) -> Group
+    ensures { λ r. ⌜ r ≡ record { period = 131072; on = 512 * grppwm } ⌝ }
+{
+    Group {
+        period: DIMMING_PERIOD,
+        on: dimming_on(grppwm),
+    }
+}
+
+pub fn blink_group(grppwm: u8, grpfreq: u8) -> Group
+    ensures { λ r. ⌜ r ≡ record { period = blinkPeriod grpfreq; on = blinkOn grpfreq grppwm } ⌝ }
+{
+    Group {
+        period: blink_period(grpfreq),
+        on: blink_on(grppwm, grpfreq),
+    }
+}
+
 // Whether a driver's output is lit at a tick.
 pub fn driver_lit(mode: DriverMode, at: DriverTicks) -> bool
     ensures { λ r. ⌜ r ≡ driverLit mode (at .0) ⌝ }
@@ -76,14 +96,12 @@ pub fn driver_lit(mode: DriverMode, at: DriverTicks) -> bool
         DriverMode::Off => false,
         DriverMode::On => true,
         DriverMode::Individual { pwm } => at.0 % 256 < pwm as u64,
-        DriverMode::Dimmed { pwm, grppwm } => {
-            grouped(DIMMING_PERIOD, dimming_on(grppwm), pwm, at.0)
-        }
+        DriverMode::Dimmed { pwm, grppwm } => grouped(dimming_group(grppwm), pwm, at.0),
         DriverMode::Blinking {
             pwm,
             grppwm,
             grpfreq,
-        } => { grouped(blink_period(grpfreq), blink_on(grppwm, grpfreq), pwm, at.0) }
+        } => grouped(blink_group(grppwm, grpfreq), pwm, at.0),
     }
 }
 
@@ -94,15 +112,13 @@ fn driver_count(mode: DriverMode, x: u64) -> u64
     match mode {
         DriverMode::Off => 0,
         DriverMode::On => x,
-        DriverMode::Individual { pwm } => count::duty(256, pwm as u64, x),
-        DriverMode::Dimmed { pwm, grppwm } => {
-            count::grouped(DIMMING_PERIOD, dimming_on(grppwm), pwm, x)
-        }
+        DriverMode::Individual { pwm } => count::individual(pwm, x),
+        DriverMode::Dimmed { pwm, grppwm } => count::grouped(dimming_group(grppwm), pwm, x),
         DriverMode::Blinking {
             pwm,
             grppwm,
             grpfreq,
-        } => { count::grouped(blink_period(grpfreq), blink_on(grppwm, grpfreq), pwm, x) }
+        } => count::grouped(blink_group(grppwm, grpfreq), pwm, x),
     }
 }
 

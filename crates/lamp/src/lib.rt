@@ -2,6 +2,7 @@
 mod blinker;
 mod count;
 mod driver;
+mod outputs;
 mod window;
 
 pub use blinker::blinker_lit;
@@ -9,6 +10,8 @@ pub use blinker::blinker_lit_steps;
 pub use driver::driver_lit;
 pub use driver::driver_lit_ticks;
 pub use driver::driver_mode;
+pub use outputs::driver_shared;
+pub use outputs::shared_lit;
 pub use window::LIMIT;
 pub use window::blinker_within;
 pub use window::driver_within;
@@ -41,4 +44,25 @@ pub enum BlinkerMode {
     On,
     LitBelow { psc: u8, pwm: u8 },
     LitFrom { psc: u8, pwm: u8 },
+}
+
+// A driver's group test: it holds for the first `on` ticks of each `period`.
+pub struct Group {
+    pub period: u64,
+    pub on: u64,
+}
+
+// The ticks from one count up to another.
+pub struct Stretch {
+    pub from: u64,
+    pub end: u64,
+}
+
+// What a driver's outputs share over a wait of so many ticks: of all ticks and of those at which the group test holds, a stretch each.
+// Awake that is the wait; asleep it is the present tick, which stands for all of them.
+pub struct Shared {
+    pub awake: bool,
+    pub ticks: u64,
+    pub all: Stretch,
+    pub group: Stretch,
 }

@@ -3,6 +3,7 @@ ghost use mathlib.Core.Path.{_≡_};
 ghost use lib.ListN.{length};
 ghost use Rattle.text.specs.Lines.{linesOf};
 ghost use Rattle.text.specs.Run.{RunsLog};
+ghost use Rattle.script.specs.Totals.{totalsCode, totalsAfter};
 ghost use Rattle.script.specs.Twin.{freshState, freshReplay, twin};
 
 #[no_mangle]
@@ -24,4 +25,12 @@ pub extern "C" fn lamptwin_replay(log: &[u8], answers: &mut [u8]) -> usize
     ensures { λ r. ⌜ RunsLog twin freshReplay (now (log .entry)) (now (answers .entry)) (now (answers .exit)) r ⌝ }
 {
     script::replay_log(log, answers)
+}
+
+#[no_mangle]
+pub extern "C" fn lamptwin_totals(log: &[u8], totals: &mut [u64]) -> u64
+    ensures { λ r. ⌜ r ≡ totalsCode (length (now (totals .entry))) ⌝ }
+    ensures { λ r. ⌜ now (totals .exit) ≡ totalsAfter (now (log .entry)) (now (totals .entry)) ⌝ }
+{
+    script::totals_log(log, totals)
 }

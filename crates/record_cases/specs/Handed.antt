@@ -16,7 +16,7 @@ use Rattle.bus.specs.declared.Bus.{Bus}
 use Rattle.message.specs.Write.{writeReply}
 
 abbrev pub busIn : Phase → ℕ → Bus
-busIn p n = record { phase = p; count = n; devices = emptyBus .devices }
+busIn p n = record { phase = p; count = n; devices = emptyBus .devices; lit = emptyBus .lit; unlit = emptyBus .unlit }
 
 -- in the given stage, with 01h in PWM0
 abbrev pub stagedOf : Chip → ℕ → ℕ → Stage → Device

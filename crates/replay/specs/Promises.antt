@@ -25,9 +25,9 @@ use Rattle.bus.specs.declared.Reply.{Reply}
 use Rattle.replay.specs.Time.{between, since, overrunsAny, afterTime}
 use Rattle.replay.specs.Replay.{timedRefusals, timedReply, replayed, replayReplies, replayBus}
 use Rattle.replay.specs.ByHand.{waitsBelow, byHand, allByHand, flat, AllAccepted, lastValue, lastValues, acceptedValues}
-use Rattle.replay.specs.laws.Time.{time-shape, event-alike}
+use Rattle.replay.specs.laws.Alike.{time-shape, event-alike}
 use Rattle.replay.specs.laws.Timed.{step-done, timed-positive}
-use Rattle.replay.specs.laws.Waits.{accepted-both, last-value, waits-done}
+use Rattle.replay.specs.laws.Waits.{accepted-both, last-value, waits-run, waits-accepted}
 use Rattle.replay.specs.declared.Clock.{Clock}
 use Rattle.replay.specs.declared.Clock.the-variants.{Unset, At}
 use Rattle.replay.specs.declared.Entry.{Entry}
@@ -99,15 +99,15 @@ recording-shape b clock (x ∷ l) = recording-shape (replayed b clock x .reply .
 -- an accepted entry, from any well-formed bus: every wait and the event are accepted, and give the entry's value and bus
 pub entry-by-hand : (b : Bus) (clock : Clock) (x : Entry) → busOk b ≡ true → replayed b clock x .reply .code ≡ 0
     → AllAccepted b (byHand b clock x) × (lastValue 0 (runReplies b (byHand b clock x)) ≡ replayed b clock x .reply .value) × (runBus b (byHand b clock x) ≡ replayed b clock x .reply .bus)
-unfolding replayed byHand
+unfolding replayed byHand afterTime
 entry-by-hand b clock (Stamped at e) well z =
     let ticks = since clock at in
     let t = timed-done ticks b e z in
     let n = none-both (stepRefusals (afterTime ticks b) e) _ (t .0) in
-    let w = waits-done ticks b well (n .1 .0) (b .count) (le-refl (b .count)) in
     let l = waitsBelow ticks b (b .count) in
-    let s : stepReply (runBus b l) e ≡ timedReply ticks b e = rw (w .1, t .1) (step-done (afterTime ticks b) e (none-code (stepRefusals (afterTime ticks b) e) (n .0))) in (
-      accepted-both b l (e ∷ []) (w .0) (rw s z, tt),
+    let run : runBus b l ≡ afterTime ticks b = waits-run ticks b well (b .count) (le-refl (b .count)) ∙ rw well in
+    let s : stepReply (runBus b l) e ≡ timedReply ticks b e = rw (run, t .1) (step-done (afterTime ticks b) e (none-code (stepRefusals (afterTime ticks b) e) (n .0))) in (
+      accepted-both b l (e ∷ []) (waits-accepted ticks b well (n .1 .0) (b .count) (le-refl (b .count))) (rw s z, tt),
       last-value 0 b l e ∙ rw s,
       run-both b l (e ∷ []) ∙ ap (λ (r : Reply). r .bus) s,
     )

@@ -17,8 +17,10 @@ fn timed(ok: bool, ticks: DriverTicks, bus: Bus, event: Event) -> Reply
     requires { ⌜ ok ≡ busOk bus ⌝ }
     ensures { λ r. ⌜ r ≡ timedReply ticks bus event ⌝ }
 {
-    let r = step_judged(ok, crate::time::after_time(ticks, bus), event);
-    let code = or_refused(r.code, 6, crate::time::overruns_any(ticks, bus));
+    let p = crate::time::pass(ok, ticks, bus);
+    let after = p.bus;
+    let r = step_judged(ok, after, event);
+    let code = or_refused(r.code, 6, p.overrun);
     if code == 0 {
         r
     } else {

@@ -4,12 +4,12 @@ use mir.Val.{Val}
 use denote.Laws.{Is}
 use denote.Struct.Laws as LL
 use denote.Enum.Laws as EL
-use Rattle.device.specs.declared.Device.{Device}
+use Rattle.totals.specs.declared.Record.{Record}
 use Rattle.device.specs.declared.Phase.{Phase}
 use Rattle.bus.specs.declared.SignalEvent.{SignalEvent}
 use Rattle.row.specs.declared.RowReply.{RowReply}
-use Rattle.device.proofs.Device as T
-use Rattle.device.proofs.Device.Laws as T′
+use Rattle.totals.proofs.Record as T
+use Rattle.totals.proofs.Record.Laws as T′
 use Rattle.device.proofs.Phase as F
 use Rattle.device.proofs.Phase.Laws as F′
 use Rattle.bus.proofs.SignalEvent as G
@@ -17,8 +17,8 @@ use Rattle.bus.proofs.SignalEvent.Laws as G′
 use Rattle.row.proofs.RowReply as N
 use Rattle.row.proofs.RowReply.Laws as N′
 
-abbrev pub mach : Device → Val
-mach d = LL.val T.the-type T′.the-laws d
+abbrev pub mach : Record → Val
+mach h = LL.val T.the-type T′.the-laws h
 
 abbrev pub f-mach : Phase → Val
 f-mach p = EL.val F.the-type F′.the-laws p
@@ -29,8 +29,8 @@ g-mach e = EL.val G.the-type G′.the-laws e
 abbrev pub n-mach : RowReply → Val
 n-mach y = LL.val N.the-type N′.the-laws y
 
-abbrev pub IsD : Device → Type 0
-IsD d = Is T.the-row d (mach d ∷ [])
+abbrev pub IsT : Record → Type 0
+IsT h = Is T.the-row h (mach h ∷ [])
 
 abbrev pub IsF : Phase → Type 0
 IsF p = Is F.the-row p (f-mach p ∷ [])

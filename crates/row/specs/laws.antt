@@ -1,2 +1,3 @@
+pub mod Refitted
 pub mod Row
 pub mod Wait

@@ -1,15 +1,18 @@
-// Calls on device records that are lent.
+// Calls on records that are lent.
 use bus::Bus;
 use bus::Event;
+use bus::Reply;
 use bus::SignalEvent;
-use device::Device;
 use device::Phase;
 use refusals::or_refused;
+use totals::Record;
 ghost use mathlib.Core.Path.{_≡_};
+ghost use mathlib.Core.Bool.{_&&_};
 ghost use Prim.Native.Nat.{_≤_, _<_};
+ghost use Rattle.totals.specs.Totals.{totalsFit};
 ghost use Rattle.refusals.specs.Refusals.{codeOf};
 ghost use Rattle.row.specs.Wait.{recordRefusals, waitRecord, waitAnswer, waitedRecord};
-ghost use Rattle.row.specs.Row.{rowReply, rowAfter, rowOf};
+ghost use Rattle.row.specs.Row.{answered, rowReply, rowAfter, rowOf};
 ghost use Rattle.row.specs.Exchange.{exchangeOf, takenOf, beginOf, indexAfter, movedOn, swapOf};
 
 // The number of a refusal, or 0, and the value.
@@ -19,62 +22,64 @@ pub struct Answer {
 }
 
 pub struct Waited {
-    pub device: Device,
+    pub after: Record,
     pub answer: Answer,
 }
 
-fn wait_code(device: Device, ticks: u64) -> u64
-    ensures { λ r. ⌜ r ≡ codeOf (recordRefusals device ticks) ⌝ }
+fn wait_code(r: Record, ticks: u64) -> u64
+    ensures { λ k. ⌜ k ≡ codeOf (recordRefusals r ticks) ⌝ }
 {
-    let chip = device.chip;
+    let d = r.device;
+    let chip = d.chip;
     let own = device::wait::own_duration(chip, ticks);
-    let code = or_refused(0, 4, !device::well_formed::is_ok(device));
-    or_refused(code, 6, device::wait::overruns(device, own))
+    let code = or_refused(0, 4, !totals::is_legal(r));
+    or_refused(code, 6, totals::record_exceeds(r, own))
 }
 
 // The wait by value, of a bare number in the unit of the device's kind: the lent forms only copy and store.
-pub fn waited_record(device: Device, ticks: u64) -> Waited
-    ensures { λ r. ⌜ r ≡ waitedRecord device ticks ⌝ }
+pub fn waited_record(r: Record, ticks: u64) -> Waited
+    ensures { λ w. ⌜ w ≡ waitedRecord r ticks ⌝ }
 {
-    let chip = device.chip;
+    let d = r.device;
+    let chip = d.chip;
     let duration = device::wait::own_duration(chip, ticks);
-    let code = wait_code(device, ticks);
+    let code = wait_code(r, ticks);
     let answer = Answer {
         code: code,
         value: 0,
     };
     if code == 0 {
-        let next = device::wait::after_wait(device, duration);
+        let next = totals::record_waited(r, duration);
         Waited {
-            device: next,
+            after: next,
             answer: answer,
         }
     } else {
         Waited {
-            device: device,
+            after: r,
             answer: answer,
         }
     }
 }
 
 // Time passes for a lent record.
-pub fn wait(device: &mut Device, ticks: u64) -> Answer
-    ensures { λ r. ⌜ (now (device .exit) ≡ waitRecord (now (device .entry)) ticks) × (r ≡ waitAnswer (now (device .entry)) ticks) ⌝ }
+pub fn wait(r: &mut Record, ticks: u64) -> Answer
+    ensures { λ a. ⌜ (now (r .exit) ≡ waitRecord (now (r .entry)) ticks) × (a ≡ waitAnswer (now (r .entry)) ticks) ⌝ }
 {
-    let w = waited_record(*device, ticks);
-    *device = w.device;
+    let w = waited_record(*r, ticks);
+    *r = w.after;
     w.answer
 }
 
 // The same for a caller that has the record by value.
-pub fn wait_of(device: Device, ticks: u64) -> Waited
-    ensures { λ r. ⌜ r ≡ waitedRecord device ticks ⌝ }
+pub fn wait_of(r: Record, ticks: u64) -> Waited
+    ensures { λ w. ⌜ w ≡ waitedRecord r ticks ⌝ }
 {
-    let mut a = device;
-    let r = wait(&mut a, ticks);
+    let mut a = r;
+    let answer = wait(&mut a, ticks);
     Waited {
-        device: a,
-        answer: r,
+        after: a,
+        answer: answer,
     }
 }
 
@@ -85,19 +90,21 @@ pub struct RowReply {
     pub phase: Phase,
 }
 
-// The records of a row and of a bus change places, one at a time; the bus takes the event; they change places again.
-// length records take part, and index is the next of them.
+// The devices of a row and of a bus change places, one at a time; the bus takes the event; they change places again.
+// Totals stay in the row: no signal changes one, and the bus has its own, which are 0.
+// length records take part, index is the next of them, and fits whether the totals of those before can be handed in.
 struct Exchange {
     bus: Bus,
     event: SignalEvent,
     length: usize,
     index: usize,
+    fits: bool,
     taken: bool,
     reply: RowReply,
 }
 
 struct Swapped {
-    device: Device,
+    after: Record,
     exchange: Exchange,
 }
 
@@ -108,10 +115,14 @@ fn exchange_of(phase: Phase, event: SignalEvent, length: usize, code: u64) -> Ex
 {
     let empty = bus::empty();
     let devices = empty.devices;
+    let lit = empty.lit;
+    let unlit = empty.unlit;
     let bus = Bus {
         phase: phase,
         count: length as u8,
         devices: devices,
+        lit: lit,
+        unlit: unlit,
     };
     let reply = RowReply {
         code: code,
@@ -123,8 +134,20 @@ fn exchange_of(phase: Phase, event: SignalEvent, length: usize, code: u64) -> Ex
         event: event,
         length: length,
         index: 0,
+        fits: true,
         taken: false,
         reply: reply,
+    }
+}
+
+// What the bus answers; 4 where totals of the row cannot be handed in, which the bus does not see.
+fn answer_of(fits: bool, bus: Bus, event: SignalEvent) -> Reply
+    ensures { λ r. ⌜ r ≡ answered fits bus event ⌝ }
+{
+    if fits {
+        bus::calls::step(bus, Event::Signal(event))
+    } else {
+        bus::refused(bus, 4)
     }
 }
 
@@ -133,7 +156,7 @@ fn take_event(x: Exchange) -> Exchange
 {
     let bus = x.bus;
     let event = x.event;
-    let answer = bus::calls::step(bus, Event::Signal(event));
+    let answer = answer_of(x.fits, bus, event);
     let next = answer.bus;
     let phase = next.phase;
     let reply = RowReply {
@@ -146,6 +169,7 @@ fn take_event(x: Exchange) -> Exchange
         event: event,
         length: x.length,
         index: 0,
+        fits: true,
         taken: true,
         reply: reply,
     }
@@ -170,8 +194,8 @@ fn index_after(index: usize) -> usize
     if index < 8 { index + 1 } else { index }
 }
 
-fn move_on(x: Exchange, bus: Bus) -> Exchange
-    ensures { λ r. ⌜ r ≡ movedOn x bus ⌝ }
+fn move_on(x: Exchange, bus: Bus, fits: bool) -> Exchange
+    ensures { λ r. ⌜ r ≡ movedOn x bus fits ⌝ }
 {
     let i = index_after(x.index);
     let event = x.event;
@@ -181,6 +205,7 @@ fn move_on(x: Exchange, bus: Bus) -> Exchange
         event: event,
         length: x.length,
         index: i,
+        fits: fits,
         taken: x.taken,
         reply: reply,
     };
@@ -193,57 +218,65 @@ fn move_on(x: Exchange, bus: Bus) -> Exchange
     }
 }
 
-fn swap(device: Device, x: Exchange) -> Swapped
-    ensures { λ r. ⌜ r ≡ swapOf device x ⌝ }
+fn still_fits(x: Exchange, r: Record) -> bool
+    ensures { λ b. ⌜ b ≡ (x .fits && totalsFit r 0) ⌝ }
+{
+    if x.fits { totals::totals_fit(r) } else { false }
+}
+
+fn swap(r: Record, x: Exchange) -> Swapped
+    ensures { λ s. ⌜ s ≡ swapOf r x ⌝ }
 {
     let bus = x.bus;
     let i = x.index as u64;
-    let out = bus::device_at(bus, i);
-    let next = move_on(x, bus::with_device(bus, i, device));
+    let mut after = r;
+    after.device = bus::device_at(bus, i);
+    let fits = still_fits(x, r);
+    let next = move_on(x, bus::with_device(bus, i, r.device), fits);
     Swapped {
-        device: out,
+        after: after,
         exchange: next,
     }
 }
 
-// One start, stop, put or get on a lent row. The bus judges every record before it changes one.
-pub fn event(row: &mut [Device], phase: Phase, event: SignalEvent) -> RowReply
+// One start, stop, put or get on a lent row. Every record is judged before one changes.
+pub fn event(row: &mut [Record], phase: Phase, event: SignalEvent) -> RowReply
     ensures { λ r. ⌜ (now (row .exit) ≡ rowAfter (now (row .entry)) phase event) × (r ≡ rowReply (now (row .entry)) phase event) ⌝ }
 {
     let mut x = begin(row.len(), phase, event);
     while x.index < x.length {
         let i = x.index;
         let s = swap(row[i], x);
-        row[i] = s.device;
+        row[i] = s.after;
         x = s.exchange;
     }
     x.reply
 }
 
 pub struct Rowed {
-    pub devices: [Device; 9],
+    pub records: [Record; 9],
     pub reply: RowReply,
 }
 
-fn event_within(devices: [Device; 9], n: usize, phase: Phase, event: SignalEvent) -> Rowed
+fn event_within(records: [Record; 9], n: usize, phase: Phase, event: SignalEvent) -> Rowed
     requires { ⌜ n < 10 ⌝ }
-    ensures { λ r. ⌜ r ≡ rowOf devices n phase event ⌝ }
+    ensures { λ r. ⌜ r ≡ rowOf records n phase event ⌝ }
 {
-    let mut a = devices;
+    let mut a = records;
     let r = crate::event(&mut a[..n], phase, event);
     Rowed {
-        devices: a,
+        records: a,
         reply: r,
     }
 }
 
 // The same on the first n of nine records, for a caller that has them by value; on all nine for a larger n.
-pub fn event_of(devices: [Device; 9], n: usize, phase: Phase, event: SignalEvent) -> Rowed
-    ensures { λ r. ⌜ r ≡ rowOf devices n phase event ⌝ }
+pub fn event_of(records: [Record; 9], n: usize, phase: Phase, event: SignalEvent) -> Rowed
+    ensures { λ r. ⌜ r ≡ rowOf records n phase event ⌝ }
 {
     if n < 10 {
-        event_within(devices, n, phase, event)
+        event_within(records, n, phase, event)
     } else {
-        event_within(devices, 9, phase, event)
+        event_within(records, 9, phase, event)
     }
 }

@@ -6,4 +6,4 @@ use Rattle.row.specs.declared.Rowed.{Rowed}
 
 -- on the first n records
 abbrev pub nextOf : Rowed → ℕ → SignalEvent → Rowed
-nextOf r n e = rowOf (r .devices) n (r .reply .phase) e
+nextOf r n e = rowOf (r .records) n (r .reply .phase) e

@@ -2,3 +2,4 @@ pub mod Parser
 pub mod Stamped
 pub mod Heard
 pub mod Turn
+pub mod Totals

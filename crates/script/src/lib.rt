@@ -2,12 +2,14 @@
 mod answer;
 mod log;
 mod parser;
+mod recording;
 mod stamped;
 mod twin;
 
 pub use log::replay_log;
 pub use log::run_log;
 pub use parser::parse;
+pub use recording::totals_log;
 pub use stamped::parse_entry;
 pub use text::lines_in;
 pub use twin::Form;

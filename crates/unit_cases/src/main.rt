@@ -59,7 +59,7 @@ fn lit(dev: u64, out: u64, n: u64) {
     counted(n, b"steps", dev, out, in_steps);
 }
 
-// A count is never added to one in the other unit, so the limit is judged in the device's own alone; lit's own limit in both.
+// A count is never added to one in the other unit; no wait and no lit is longer than 2^48, in either.
 fn limits() {
     wait(0, LIMIT);
     wait(0, LIMIT + 1);
@@ -71,6 +71,7 @@ fn limits() {
 }
 
 fn asleep() {
+    wait_on(b"9635 asleep, ", setup::one(9635, 16), 0, LIMIT);
     wait_on(b"9635 asleep, ", setup::one(9635, 16), 0, LIMIT + 1);
 }
 

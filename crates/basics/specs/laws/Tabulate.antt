@@ -23,7 +23,10 @@ getD-tabulate (suc n) f k h =
     (eq-or-lt-of-le h)
 
 -- a list is known by its elements
-pub tabulated : (n : ℕ) (f : ℕ → ℕ) (l : List ℕ) → length l ≡ n → ((k : ℕ) → getD l k 0 ≡ f k) → l ≡ tabulate n f
-tabulated n f l h at =
+pub tabulated-below : (n : ℕ) (f : ℕ → ℕ) (l : List ℕ) → length l ≡ n → ((k : ℕ) → k < n → getD l k 0 ≡ f k) → l ≡ tabulate n f
+tabulated-below n f l h at =
     ext-getD 0 l (tabulate n f) (h ∙ sym (length-tabulate n f))
-    (λ k lt. at k ∙ sym (getD-tabulate n f k (rw h at lt)))
+    (λ k lt. let g : k < n = rw h at lt in at k g ∙ sym (getD-tabulate n f k g))
+
+pub tabulated : (n : ℕ) (f : ℕ → ℕ) (l : List ℕ) → length l ≡ n → ((k : ℕ) → getD l k 0 ≡ f k) → l ≡ tabulate n f
+tabulated n f l h at = tabulated-below n f l h (λ k _. at k)

@@ -1,15 +1,17 @@
--- A change or a question at a position: its code is that of the position and of the device there, and what one that is not refused comes with is a byte.
+-- A change or a question at a position: its code is that of the position or of the device there, and what one that is not refused comes with.
 use mathlib.Core.Path.{_≡_, refl, sym, ap, _∙_}
 use mathlib.Core.Bool.{true, false, cond}
 use mathlib.Core.List.{List, _++_}
 use Prim.Native.Nat.{ℕ, _≤_, _<_}
 use native.Mathlib.Omega.{arith}
-use lib.Dec.{eqb}
-use borrow.Author.Tests.{leb-false, lt-ltb, ltb-false}
-use Rattle.basics.specs.laws.Logic.{holds, fails, tested}
+use lib.Dec.{ltb, eqb}
+use borrow.Author.Tests.{leb-false, lt-ltb, ltb-true, ltb-false, not-false}
+use Rattle.basics.specs.laws.Logic.{holds, fails, tested, and-right}
 use Rattle.chip.specs.Kinds.{outputsOf}
 use Rattle.chip.specs.laws.Registers.{outputs-few}
 use Rattle.device.specs.declared.Device.{Device}
+use Rattle.totals.specs.Wait.{exceeds}
+use Rattle.totals.specs.declared.Record.{Record}
 use Rattle.refusals.specs.Refusals.{Refusal, least, codeOf}
 use Rattle.refusals.specs.laws.Refusals.{refused-both, above, code-first, accepted}
 use Rattle.bus.specs.Devices.{busOk, hasDevice, deviceAt}
@@ -18,14 +20,15 @@ use Rattle.bus.specs.Events.{stepRefusals, stepDone, stepReply}
 use Rattle.bus.specs.laws.Replies.{answer-is}
 use Rattle.bus.specs.declared.Bus.{Bus}
 use Rattle.bus.specs.declared.Change.{Change}
-use Rattle.bus.specs.declared.Change.the-variants.{Ext}
+use Rattle.bus.specs.declared.Change.the-variants.{Wait, Oe, Ext, Reset}
 use Rattle.bus.specs.declared.Event.the-variants.{Ask}
 use Rattle.bus.specs.declared.Question.{Question}
 use Rattle.bus.specs.declared.Question.the-variants.{Lit, Pin}
 
--- the code of a position, and that of the device which stands there
-pub placed-code : (b : Bus) (dev : ℕ) (own : Device → List Refusal) (d : Device) (j k r : ℕ) → d ≡ deviceAt b dev → j ≡ codeOf (placeRefusals b dev) → k ≡ codeOf (own d) → r ≡ least j k → r ≡ codeOf (placeRefusals b dev ++ own (deviceAt b dev))
-placed-code b dev own d j k r e p q = refused-both (placeRefusals b dev) (own (deviceAt b dev)) j k r p (q ∙ ap (λ (x : Device). codeOf (own x)) e)
+-- where a position has no number, what stands there has the code
+pub placed-code : (b : Bus) (dev k : ℕ) (own : List Refusal) → codeOf (placeRefusals b dev) ≡ 0 → k ≡ codeOf own → k ≡ codeOf (placeRefusals b dev ++ own)
+unfolding least
+placed-code b dev k own z e = refused-both (placeRefusals b dev) own 0 k k (sym z) e refl
 
 -- a position's own numbers come first, whatever the device is asked
 position-few : (b : Bus) (dev : ℕ) → codeOf (placeRefusals b dev) ≤ 4
@@ -36,13 +39,27 @@ position-few b dev =
       | fails e ↦ rw e (elim (tested (busOk b)) [ holds o ↦ rw o (omega arith) | fails o ↦ rw o (omega arith) ])
     ]
 
-questions-above : (d : Device) (q : Question) → above 4 (questionRefusals d q) ≡ true
+pub questions-above : (d : Device) (q : Question) → above 4 (questionRefusals d q) ≡ true
 unfolding questionRefusals
 questions-above d (Lit out ticks) = refl
 questions-above d (Pin out) = refl
 
-pub position-first : (b : Bus) (dev : ℕ) (d : Device) (q : Question) → (codeOf (placeRefusals b dev) ≡ 0 → ⊥) → codeOf (placeRefusals b dev ++ questionRefusals d q) ≡ codeOf (placeRefusals b dev)
-position-first b dev d q p = code-first (placeRefusals b dev) (questionRefusals d q) 4 p (position-few b dev) (questions-above d q)
+pub changes-above : (r : Record) (c : Change) → above 4 (changeRefusals r c) ≡ true
+unfolding changeRefusals
+changes-above r (Wait ticks) = refl
+changes-above r (Oe level) = refl
+changes-above r (Ext level) = refl
+changes-above r Reset = refl
+
+pub position-first : (b : Bus) (dev : ℕ) (own : List Refusal) → above 4 own ≡ true → (codeOf (placeRefusals b dev) ≡ 0 → ⊥) → codeOf (placeRefusals b dev ++ own) ≡ codeOf (placeRefusals b dev)
+position-first b dev own h p = code-first (placeRefusals b dev) own 4 p (position-few b dev) h
+
+-- a position without a number has a device, and is one of the eight
+pub position-there : (b : Bus) (dev : ℕ) → codeOf (placeRefusals b dev) ≡ 0 → (hasDevice b dev ≡ true) × (busOk b ≡ true) × (dev < 8)
+position-there b dev z =
+    let n = accepted (placeRefusals b dev) refl z in
+    let there = not-false (hasDevice b dev) (n .0) in
+    (there, not-false (busOk b) (n .1 .0), ltb-true dev 8 (and-right (ltb dev (b .count)) (ltb dev 8) there))
 
 -- and there are none where a device stands on a well-formed bus
 pub position-free : (b : Bus) (dev : ℕ) → busOk b ≡ true → dev < b .count → dev < 8 → codeOf (placeRefusals b dev) ≡ 0
@@ -51,14 +68,18 @@ position-free b dev o h k = rw (lt-ltb dev (b .count) h, lt-ltb dev 8 k, o) refl
 
 -- what the device answers is the reply where its position has no number
 pub device-answers : (b : Bus) (dev : ℕ) (q : Question) (d : Device) (k v : ℕ) → codeOf (placeRefusals b dev) ≡ 0 → d ≡ deviceAt b dev → k ≡ codeOf (questionRefusals d q) → v ≡ cond (eqb k 0) (valueOf d q) 0 → record { code = k; value = v; bus = b } ≡ stepReply b (Ask dev q)
-unfolding stepReply stepRefusals stepDone least
-device-answers b dev q d k v z e p w = answer-is _ _ _ _ _ (placed-code b dev (λ x. questionRefusals x q) d 0 k k e (sym z) p refl) (rw (← e) w)
+unfolding stepReply stepRefusals stepDone
+device-answers b dev q d k v z e p w = answer-is _ _ _ _ _ (placed-code b dev k (questionRefusals (deviceAt b dev) q) z (rw (← e) p)) (rw (← e) w)
+
+pub ext-byte : (r : Record) (c : Change) (level : ℕ) → c ≡ Ext level → codeOf (changeRefusals r c) ≡ 0 → level < 256
+unfolding changeRefusals
+ext-byte r c level e z = omega (arith, ltb-false 255 level (accepted (changeRefusals r (Ext level)) refl (rw e at z) .0))
+
+pub wait-fits : (r : Record) (c : Change) (ticks : ℕ) → c ≡ Wait ticks → codeOf (changeRefusals r c) ≡ 0 → exceeds r ticks ≡ false
+unfolding changeRefusals
+wait-fits r c ticks e z = accepted (changeRefusals r (Wait ticks)) refl (rw e at z) .0
 
 module _ (d : Device) where
-  pub ext-byte : (c : Change) (level : ℕ) → c ≡ Ext level → codeOf (changeRefusals d c) ≡ 0 → level < 256
-  unfolding changeRefusals
-  ext-byte c level e z = omega (arith, ltb-false 255 level (accepted (changeRefusals d (Ext level)) refl (rw e at z) .0))
-
   pub output-byte : (out : ℕ) → isMissing d out ≡ false → out < 256
   output-byte out e = omega (arith, outputs-few (d .chip), leb-false (outputsOf (d .chip)) out e)
 

@@ -79,9 +79,7 @@ module _ (l : List Refusal) (b : Bus) (d : Reply) where
 -- a well-formed bus has at most eight devices
 pub ok-count : (b : Bus) → not (busOk b) ≡ false → b .count ≤ 8
 unfolding busOk
-ok-count b e =
-    leb-true (b .count) 8
-    (and-left (leb (b .count) 8) (allFirst (b .count) (wellFormed (b .phase)) (b .devices)) (not-false (busOk b) e))
+ok-count b e = leb-true (b .count) 8 (and-left (leb (b .count) 8) _ (not-false (busOk b) e))
 
 -- an address that a chip can have is a byte
 pub allowed-byte : (found : Lookup) (address : ℕ) → isUnknown found ≡ false → isBarred found address ≡ false → address < 256

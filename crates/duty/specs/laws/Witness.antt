@@ -7,7 +7,9 @@ use lib.Dec.{eqb}
 use lib.ListN.{set, replicate}
 use borrow.Author.Tests.{eqb-true, eq-eqb, ne-eqb, le-leb, lt-leb, lt-ltb}
 use Rattle.basics.specs.Bits.{bit}
+use Rattle.basics.specs.Below.{allBelow}
 use Rattle.basics.specs.First.{allFirst}
+use Rattle.basics.specs.Parts.{part}
 use Rattle.basics.specs.Tabulate.{tabulate}
 use Rattle.basics.specs.laws.Table.{at}
 use Rattle.basics.specs.laws.Tabulate.{getD-tabulate}
@@ -27,6 +29,7 @@ use Rattle.device.specs.Output.{pairOf, ledoutOf}
 use Rattle.device.specs.laws.WellFormed.{well}
 use Rattle.device.specs.declared.Device.{Device}
 use Rattle.device.specs.declared.Phase.the-variants.{Idle}
+use Rattle.bus.specs.laws.Records.{zeros-fit}
 use Rattle.bus.specs.Devices.{busOk}
 use Rattle.duty.specs.Output.{Output, Stands}
 use Rattle.bus.specs.declared.Bus.{Bus}
@@ -61,7 +64,7 @@ driverSet chip t s =
     (set (set (resetRegisters chip) mode1 1) mode2 (s .mode2))
 
 abbrev pub busSet : Chip → ℕ → Setting → Bus
-busSet chip t s = record { phase = Idle; count = 1; devices = replicate 8 (driverSet chip t s) }
+busSet chip t s = record { phase = Idle; count = 1; devices = replicate 8 (driverSet chip t s); lit = replicate 128 0; unlit = replicate 128 0 }
 
 -- ---- facts by the kind of driver
 
@@ -130,10 +133,10 @@ module _ (chip : Chip) (driver : isDriver chip ≡ true) (t : ℕ) (s : Setting)
   output k e = record { driver = driver; awake = awake chip t s; mode-is = mode ∙ e; brightness = brightness }
 
   pub stands : t ≤ countLimit → Stands (busSet chip t s) 0 (s .out) t
-  unfolding busOk allFirst
+  unfolding busOk allFirst allBelow part tabulate
   stands k =
       record {
-        formed = rw (well Idle (driverSet chip t s) (record { legal = reset-legal chip; allowed = allowed chip; within = le-leb t countLimit k }) refl) refl;
+        formed = rw (well Idle (driverSet chip t s) (record { legal = reset-legal chip; allowed = allowed chip; within = le-leb t countLimit k }) refl, zeros-fit (outputsOf chip)) refl;
         there = refl;
         has-output = lt-leb (outputsOf chip) (s .out) h;
         at = refl;

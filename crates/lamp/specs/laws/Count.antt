@@ -9,7 +9,7 @@ use native.Mathlib.Numerals.{add-one}
 use native.Mathlib.Omega.{arith}
 use lib.Dec.{ltb, leb, lit<}
 use lib.Arith.{digits-lt, mod-mul}
-use borrow.Author.Tests.{lt-ltb, le-ltb, le-leb, lt-leb, leb-true, ltb-true, ltb-false}
+use borrow.Author.Tests.{lt-ltb, le-ltb, le-leb, lt-leb, leb-true, leb-false, ltb-true, ltb-false}
 use Rattle.basics.specs.laws.Division.{div-mod-of}
 use Rattle.basics.specs.laws.Logic.{tested, holds, fails}
 use Rattle.lamp.specs.Window.{oneIf, litTicks, countLimit, countedTicks}
@@ -32,7 +32,7 @@ window C t (suc w) = rw add-suc (omega (arith, window C t w, C .step (t + w)))
 pub from-zero : {lit : ℕ → Bool} {F : ℕ → ℕ} → Counts lit F → (x : ℕ) → F x ≡ litTicks lit 0 x
 from-zero C x = omega (arith, C .start, rw zero-add at (window C 0 x))
 
-at-most-one : (b : Bool) → oneIf b ≤ 1
+pub at-most-one : (b : Bool) → oneIf b ≤ 1
 at-most-one true = omega arith
 at-most-one false = omega arith
 
@@ -40,6 +40,13 @@ at-most-one false = omega arith
 pub within : {lit : ℕ → Bool} {F : ℕ → ℕ} → Counts lit F → (x : ℕ) → F x ≤ x
 within C zero = omega (arith, C .start)
 within {lit} C (suc x) = omega (arith, C .step x, at-most-one (lit x), within C x)
+
+-- a test of a sum is one of a difference
+pub moved : (a m l : ℕ) → m ≤ l → leb a (l - m) ≡ leb (a + m) l
+moved a m l h = elim (tested (leb a (l - m))) [
+  | holds e ↦ e ∙ sym (le-leb (a + m) l (omega (arith, leb-true a (l - m) e)))
+  | fails e ↦ e ∙ sym (lt-leb (a + m) l (omega (arith, leb-false a (l - m) e)))
+]
 
 -- ---- how prefix counts are made
 
@@ -76,6 +83,12 @@ module _ (lit : ℕ → Bool) (t w : ℕ) (b : Bool) (e : b ≡ leb (t + w) coun
   pub beyond-none : b ≡ false → 0 ≡ countedTicks lit t w
   unfolding countedTicks
   beyond-none h = rw (sym e ∙ h)
+
+-- no more ticks of a window are lit than it has
+pub counted-few : (lit : ℕ → Bool) (t w : ℕ) → countedTicks lit t w ≤ w
+unfolding countedTicks
+counted-few lit t w =
+    elim (tested (leb (t + w) countLimit)) [ holds e ↦ rw e (within (from lit t) w) | fails e ↦ rw e (omega arith) ]
 
 -- the end of a window that ends by the limit fits
 pub within-fits : (t w : ℕ) (b : Bool) → b ≡ leb (t + w) countLimit → b ≡ true → t + w < 2 ^ 64

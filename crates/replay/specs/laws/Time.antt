@@ -1,70 +1,77 @@
--- Time leaves what a bus is refused for, but for 6: its shape, its phase, and the kind of each device.
-use mathlib.Core.Path.{_≡_, refl, sym, ap}
-use mathlib.Core.Bool.{Bool, _&&_}
-use Prim.Native.Nat.{ℕ}
-use lib.Dec.{leb}
-use borrow.Author.Tests.{ne-eqb}
+-- The drivers below a position, once they have waited: what stays of the bus.
+use mathlib.Core.Path.{_≡_, refl, sym, ap, _∙_}
+use mathlib.Core.Bool.{true, false}
+use Prim.Native.Nat.{ℕ, zero, suc, _≤_, _<_}
+use native.Mathlib.Omega.{arith}
+use lib.ListN.{length, length-set}
 use Rattle.basics.specs.laws.Logic.{holds, fails, tested}
-use Rattle.basics.specs.laws.First.{map-keeps, all-kept}
 use Rattle.lamp.specs.declared.DriverTicks.{DriverTicks}
-use Rattle.chip.specs.Kinds.{isDriver}
-use Rattle.device.specs.Registers.{isAwake}
-use Rattle.device.specs.Wait.{afterWait}
-use Rattle.device.specs.WellFormed.{wellFormed}
-use Rattle.device.specs.Promises.{waited-shape}
-use Rattle.device.specs.declared.Device.{Device}
-use Rattle.device.specs.declared.Phase.{Phase}
-use Rattle.refusals.specs.Refusals.{holdsAt}
-use Rattle.bus.specs.Devices.{busOk, deviceAt}
-use Rattle.bus.specs.Place.{changeRefusals, questionRefusals}
-use Rattle.bus.specs.Events.{stepRefusals}
+use Rattle.totals.specs.Wait.{waited}
+use Rattle.totals.specs.Promises.{waited-kind}
+use Rattle.totals.specs.laws.Raised.{raised-long}
+use Rattle.totals.specs.declared.Record.{Record}
+use Rattle.bus.specs.Devices.{deviceAt, recordAt, withRecord}
+use Rattle.bus.specs.laws.Records.{kind-set, record-other}
 use Rattle.bus.specs.declared.Bus.{Bus}
-use Rattle.bus.specs.declared.Change.{Change}
-use Rattle.bus.specs.declared.Change.the-variants as C
-use Rattle.bus.specs.declared.Event.{Event}
-use Rattle.bus.specs.declared.Event.the-variants as E
-use Rattle.bus.specs.declared.Question.{Question}
-use Rattle.bus.specs.declared.Question.the-variants as Q
-use Rattle.replay.specs.Time.{waited, afterTime}
+use Rattle.replay.specs.Time.{takes, timeBelow}
 
-module _ (ticks : DriverTicks) where
-  waited-chip : (d : Device) → waited ticks d .chip ≡ d .chip
-  unfolding afterWait
-  waited-chip d =
-      elim (tested (isDriver (d .chip))) [
-        | holds e ↦ rw e (elim (tested (isAwake d)) [ holds a ↦ rw a | fails a ↦ rw a ])
-        | fails e ↦ rw e
+module _ (ticks : DriverTicks) (b : Bus) where
+  -- a driver more, which takes the time or not
+  pub below-takes : (n : ℕ) → takes ticks (recordAt b n) ≡ true → timeBelow ticks b (suc n) ≡ withRecord (timeBelow ticks b n) n (waited (recordAt b n) (ticks .0))
+  unfolding timeBelow
+  below-takes n e = rw e
+
+  pub below-stays : (n : ℕ) → takes ticks (recordAt b n) ≡ false → timeBelow ticks b (suc n) ≡ timeBelow ticks b n
+  unfolding timeBelow
+  below-stays n e = rw e
+
+  -- what holds of the bus, and of one with a record that has waited, holds of the bus once the time has passed
+  pub below-keeps : (P : Bus → Type 0) → P b → ((n : ℕ) → P (timeBelow ticks b n) → P (withRecord (timeBelow ticks b n) n (waited (recordAt b n) (ticks .0)))) → (n : ℕ) → P (timeBelow ticks b n)
+  unfolding timeBelow
+  below-keeps P p q zero = p
+  below-keeps P p q (suc n) =
+      elim (tested (takes ticks (recordAt b n))) [ holds e ↦ rw e (q n (below-keeps P p q n)) | fails e ↦ rw e (below-keeps P p q n) ]
+
+  pub below-count : (n : ℕ) → timeBelow ticks b n .count ≡ b .count
+  below-count = below-keeps (λ (x : Bus). x .count ≡ b .count) refl (λ n e. e)
+
+  pub below-phase : (n : ℕ) → timeBelow ticks b n .phase ≡ b .phase
+  below-phase = below-keeps (λ (x : Bus). x .phase ≡ b .phase) refl (λ n e. e)
+
+  waited-lit : (r : Record) → length (waited r (ticks .0) .lit) ≡ 16
+  unfolding waited
+  waited-lit r = raised-long _ (r .lit) _
+
+  waited-unlit : (r : Record) → length (waited r (ticks .0) .unlit) ≡ 16
+  unfolding waited
+  waited-unlit r = raised-long _ (r .unlit) _
+
+  -- a record that is not reached yet
+  pub below-ahead : (n i : ℕ) → n ≤ i → i < 8 → recordAt (timeBelow ticks b n) i ≡ recordAt b i
+  unfolding timeBelow
+  below-ahead zero i h k = refl
+  below-ahead (suc n) i h k =
+      elim (tested (takes ticks (recordAt b n))) [
+        | holds e ↦ rw e (record-other (timeBelow ticks b n) n (waited (recordAt b n) (ticks .0)) (waited-lit (recordAt b n)) (waited-unlit (recordAt b n)) i k (λ q. omega arith) ∙ below-ahead n i (omega arith) k)
+        | fails e ↦ rw e (below-ahead n i (omega arith) k)
       ]
 
-  waited-well : (p : Phase) (d : Device) → wellFormed p (waited ticks d) ≡ wellFormed p d
-  waited-well p d =
-      elim (tested (isDriver (d .chip))) [ holds e ↦ rw e (waited-shape p (ticks .0) d) | fails e ↦ rw e ]
+  -- the kind of each device
+  kind-waited : (r : Record) → waited r (ticks .0) .device .chip ≡ r .device .chip
+  unfolding waited
+  kind-waited r = waited-kind (r .device) (ticks .0)
 
-  pub time-shape : (b : Bus) → busOk (afterTime ticks b) ≡ busOk b
-  unfolding busOk
-  time-shape b =
-      ap (λ (x : Bool). leb (b .count) 8 && x) (all-kept (wellFormed (b .phase)) (waited ticks) (waited-well (b .phase)) (b .count) (b .count) (b .devices))
+  pub below-kind : (n i : ℕ) → n ≤ 8 → deviceAt (timeBelow ticks b n) i .chip ≡ deviceAt b i .chip
+  unfolding timeBelow
+  below-kind zero i h = refl
+  below-kind (suc n) i h =
+      let m = timeBelow ticks b n in
+      let r = recordAt b n in
+      let same : waited r (ticks .0) .device .chip ≡ deviceAt m n .chip = kind-waited r ∙ ap (λ (x : Record). x .device .chip) (sym (below-ahead n n (omega arith) (omega arith))) in
+      elim (tested (takes ticks r)) [
+        | holds e ↦ rw e (kind-set (m .devices) n i (waited r (ticks .0) .device) same ∙ below-kind n i (omega arith))
+        | fails e ↦ rw e (below-kind n i (omega arith))
+      ]
 
-  time-chip : (b : Bus) (i : ℕ) → deviceAt (afterTime ticks b) i .chip ≡ deviceAt b i .chip
-  time-chip b i = map-keeps (waited ticks) (λ (d : Device). d .chip) waited-chip _ (b .count) (b .devices) i
-
-module _ (k : ℕ) (other : k ≡ 6 → ⊥) where
-  -- of a device, its kind alone
-  changes-alike : (c : Change) (x y : Device) → x .chip ≡ y .chip → holdsAt (changeRefusals x c) k ≡ holdsAt (changeRefusals y c) k
-  unfolding changeRefusals
-  changes-alike (C.Wait ticks) x y e = rw (ne-eqb 6 k (λ q. other (sym q)))
-  changes-alike (C.Oe level) x y e = rw e
-  changes-alike (C.Ext level) x y e = rw e
-  changes-alike C.Reset x y e = refl
-
-  questions-alike : (q : Question) (x y : Device) → x .chip ≡ y .chip → holdsAt (questionRefusals x q) k ≡ holdsAt (questionRefusals y q) k
-  unfolding questionRefusals
-  questions-alike (Q.Lit out ticks) x y e = rw (ne-eqb 6 k (λ q. other (sym q)), e)
-  questions-alike (Q.Pin out) x y e = rw e
-
-  pub event-alike : (ticks : DriverTicks) (b : Bus) (e : Event) → holdsAt (stepRefusals (afterTime ticks b) e) k ≡ holdsAt (stepRefusals b e) k
-  unfolding stepRefusals
-  event-alike ticks b (E.Add chip addr) = rw (time-shape ticks b)
-  event-alike ticks b (E.Signal s) = rw (time-shape ticks b)
-  event-alike ticks b (E.Change dev c) = rw (time-shape ticks b, changes-alike c (deviceAt (afterTime ticks b) dev) (deviceAt b dev) (time-chip ticks b dev))
-  event-alike ticks b (E.Ask dev q) = rw (time-shape ticks b, questions-alike q (deviceAt (afterTime ticks b) dev) (deviceAt b dev) (time-chip ticks b dev))
+  pub below-places : (n : ℕ) → length (timeBelow ticks b n .devices) ≡ length (b .devices)
+  below-places = below-keeps (λ (x : Bus). length (x .devices) ≡ length (b .devices)) refl (λ n e. length-set (timeBelow ticks b n .devices) n _ ∙ e)

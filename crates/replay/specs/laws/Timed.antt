@@ -3,24 +3,19 @@ use mathlib.Core.Path.{_≡_, refl, sym, ap, _∙_}
 use mathlib.Core.Bool.{Bool, true}
 use mathlib.Core.List.{[], _∷_}
 use Prim.Native.Nat.{ℕ}
-use lib.ListN.{length}
-use Rattle.basics.specs.laws.First.{map-long}
 use Rattle.lamp.specs.declared.DriverTicks.{DriverTicks}
 use Rattle.refusals.specs.Refusals.{refuse, least, numberOf, codeOf}
 use Rattle.refusals.specs.laws.Refusals.{positive, least-none, refused-more, positive-both}
 use Rattle.bus.specs.Replies.{refusedWith}
 use Rattle.bus.specs.Events.{stepReply, stepRefusals, stepDone}
 use Rattle.bus.specs.Promises.{step-code}
-use Rattle.bus.specs.laws.Replies.{answered, turned-away, answer-bus}
-use Rattle.bus.specs.laws.WellFormed.{step-positive, done-places}
+use Rattle.bus.specs.laws.Replies.{answered, turned-away}
+use Rattle.bus.specs.laws.WellFormed.{step-positive}
 use Rattle.bus.specs.declared.Bus.{Bus}
 use Rattle.bus.specs.declared.Event.{Event}
 use Rattle.bus.specs.declared.Reply.{Reply}
-use Rattle.replay.specs.Time.{since, waited, overrunsAny, afterTime}
-use Rattle.replay.specs.Replay.{timedRefusals, timedReply, replayed}
-use Rattle.replay.specs.declared.Clock.{Clock}
-use Rattle.replay.specs.declared.Entry.{Entry}
-use Rattle.replay.specs.declared.Entry.the-variants.{Stamped, Unknown}
+use Rattle.replay.specs.Time.{overrunsAny, afterTime}
+use Rattle.replay.specs.Replay.{timedRefusals, timedReply}
 
 -- an event that no number holds of is done
 pub step-done : (b : Bus) (e : Event) → codeOf (stepRefusals b e) ≡ 0 → stepReply b e ≡ stepDone b e
@@ -50,12 +45,3 @@ module _ (ticks : DriverTicks) (b : Bus) (e : Event) (r : Reply) (on : Bool) (co
 pub timed-positive : (ticks : DriverTicks) (b : Bus) (e : Event) → positive (timedRefusals ticks b e) ≡ true
 timed-positive ticks b e =
     positive-both (stepRefusals (afterTime ticks b) e) (refuse 6 (overrunsAny ticks b) ∷ []) (step-positive (afterTime ticks b) e) refl
-
--- no entry changes how many places a bus has
-pub replay-places : (b : Bus) (clock : Clock) (x : Entry) → length (replayed b clock x .reply .bus .devices) ≡ length (b .devices)
-unfolding replayed timedReply
-replay-places b clock (Stamped at e) =
-    let ticks = since clock at in
-    answer-bus (timedRefusals ticks b e) b _ (λ (y : Bus). length (y .devices) ≡ length (b .devices)) (timed-positive ticks b e) refl
-    (λ n. done-places (afterTime ticks b) e ∙ map-long (waited ticks) (b .count) (b .devices))
-replay-places b clock Unknown = refl

@@ -1,5 +1,5 @@
 -- `row::event` meets its contract: a walk of its MIR, by hand, with a loop. The borrow is opened once, before the loop, and closed once, after it; a turn takes one record out of the row, passes a copy of it to `swap`, stores what that returns, and puts the record back.
--- All that it knows of `begin` and `swap` is that each meets its contract. No field of a device is named.
+-- All that it knows of `begin` and `swap` is that each meets its contract. No field of a record is named.
 -- The invariant with t turns left is `Passes.antt`'s `Reach` of t: from the row and the exchange as they stand, t turns lead to what the contract says. The variant is t.
 use mathlib.Core.Path.{_≡_, refl, sym, ap, _∙_, subst}
 use Prim.Native.Nat.{ℕ, zero, suc, _*_, _<_, _≤_, _^_}
@@ -49,7 +49,7 @@ use denote.Triple.Walked.{says, Stays, stay-slice, stay-none, walkOf, AllGo, goe
 use denote.Triple.Clauses.{ensured, lasts}
 use denote.Exit.{yes}
 use borrow.Author.Tests.{lt-ltb, le-ltb}
-use Rattle.device.specs.declared.Device.{Device}
+use Rattle.totals.specs.declared.Record.{Record}
 use Rattle.device.specs.declared.Phase.{Phase}
 use Rattle.bus.specs.declared.SignalEvent.{SignalEvent}
 use Rattle.row.specs.Row.{rowAfter, rowReply}
@@ -57,10 +57,10 @@ use Rattle.row.specs.Exchange.{beginOf, swapOf}
 use Rattle.row.specs.declared.RowReply.{RowReply}
 use Rattle.row.specs.declared.Exchange.{Exchange}
 use Rattle.row.specs.declared.Swapped.{Swapped}
-use Rattle.row.proofs.Values.{mach, f-mach, g-mach, n-mach, IsD, IsF, IsG, IsN}
+use Rattle.row.proofs.Values.{mach, f-mach, g-mach, n-mach, IsT, IsF, IsG, IsN}
 use Rattle.row.proofs.Passes.{none, turns, Reach, reached}
-use Rattle.device.proofs.Device as T
-use Rattle.device.proofs.Device.Laws as T′
+use Rattle.totals.proofs.Record as T
+use Rattle.totals.proofs.Record.Laws as T′
 use Rattle.device.proofs.Phase as F
 use Rattle.device.proofs.Phase.Laws as F′
 use Rattle.bus.proofs.SignalEvent as G
@@ -97,14 +97,14 @@ IsX y = Is X.the-row y (x-mach y ∷ [])
 
 -- an exchange's reply
 reply-is : (y : Exchange) → IsX y → IsN (y .reply)
-reply-is y gy = LL.owed X.the-type X′.the-laws y _ gy .1 .1 .1 .1 .1 .0
+reply-is y gy = LL.owed X.the-type X′.the-laws y _ gy .1 .1 .1 .1 .1 .1 .0
 
 -- the same, at the values that the relation tells
 only-is : (y : Exchange) (v : Val) → Is X.the-row y (v ∷ []) → IsX y
 only-is y v is = subst (λ (vs : List Val). Is X.the-row y vs) (LL.tells X.the-type X′.the-laws y _ is) is
 
 abbrev Arg : Type 0
-Arg = RefT (List Device) × (Phase × (SignalEvent × Unit {0}))
+Arg = RefT (List Record) × (Phase × (SignalEvent × Unit {0}))
 
 abbrev stayed : Stays (event.ended .signature .params) (event.ended .kept)
 stayed = (stay-slice (0 ∷ []) tt (plain (λ _. T.the-row)), (stay-none (λ _. F.the-row) yes, (stay-none (λ _. G.the-row) yes, tt)))
@@ -120,14 +120,14 @@ module _ {M : Type 1} (𝓤 : URA M) (H : Heap 𝓤) (A : Atoms 𝓤) (mem : Mem
   begun : (n : ℕ) (p : Phase) (e : SignalEvent) (r : Exchange) → ent 𝓤 (ensured 𝓤 H A begin.ended (begin.clauses 𝓤 H A mem run) tt (n, (p, (e, tt))) tt r) (fact 𝓤 (r ≡ beginOf n p e))
   begun n p e r = exE 𝓤 _ (λ ws. snd∗ 𝓤 (sem 𝓤 H A (lasts begin.ended tt (n, (p, (e, tt))) ws)) (fact 𝓤 (r ≡ beginOf n p e)))
 
-  swapped : (d : Device) (y : Exchange) (r : Swapped) → ent 𝓤 (ensured 𝓤 H A swap.ended (swap.clauses 𝓤 H A mem run) tt (d, (y, tt)) tt r) (fact 𝓤 (r ≡ swapOf d y))
-  swapped d y r = exE 𝓤 _ (λ ws. snd∗ 𝓤 (sem 𝓤 H A (lasts swap.ended tt (d, (y, tt)) ws)) (fact 𝓤 (r ≡ swapOf d y)))
+  swapped : (h : Record) (y : Exchange) (r : Swapped) → ent 𝓤 (ensured 𝓤 H A swap.ended (swap.clauses 𝓤 H A mem run) tt (h, (y, tt)) tt r) (fact 𝓤 (r ≡ swapOf h y))
+  swapped h y r = exE 𝓤 _ (λ ws. snd∗ 𝓤 (sem 𝓤 H A (lasts swap.ended tt (h, (y, tt)) ws)) (fact 𝓤 (r ≡ swapOf h y)))
 
-module _ {M : Type 1} (𝓤 : URA M) (H : Heap 𝓤) (A : Atoms 𝓤) (W : Given 𝓤 H A) (at-mem : Memory → SProp 𝓤) (run : Routine → Fun 𝓤) (κ : Lft) (q : Share) (b o : ℕ) (γ : GName) (xs : List Device) (p : Phase) (e : SignalEvent) (room : Room T.the-row (length xs)) (gp : IsF p) (ge : IsG e) where
+module _ {M : Type 1} (𝓤 : URA M) (H : Heap 𝓤) (A : Atoms 𝓤) (W : Given 𝓤 H A) (at-mem : Memory → SProp 𝓤) (run : Routine → Fun 𝓤) (κ : Lft) (q : Share) (b o : ℕ) (γ : GName) (xs : List Record) (p : Phase) (e : SignalEvent) (room : Room T.the-row (length xs)) (gp : IsF p) (ge : IsG e) where
   abbrev n : ℕ
   n = length xs
 
-  abbrev at-list : List Device → RefT (List Device)
+  abbrev at-list : List Record → RefT (List Record)
   at-list zs = record { ptr = (b, o); name = γ; now = zs }
 
   abbrev x : Arg
@@ -142,7 +142,7 @@ module _ {M : Type 1} (𝓤 : URA M) (H : Heap 𝓤) (A : Atoms 𝓤) (W : Given
   abbrev Post : Val → SProp 𝓤
   Post = walkOf 𝓤 H A event.ended stayed (event.clauses 𝓤 H A at-mem run) .post (((κ, tt), (q, tt), tt, x, vals), tt)
 
-  exits : (zs : List Device) (y : RowReply) → length zs ≡ n → IsN y → zs ≡ rowAfter xs p e → y ≡ rowReply xs p e
+  exits : (zs : List Record) (y : RowReply) → length zs ≡ n → IsN y → zs ≡ rowAfter xs p e → y ≡ rowReply xs p e
       → ent 𝓤 (⋆ 𝓤 H A (‵ (fobs γ (codedHoleys T.the-row .code (heres T.the-row zs))) ∷ ‵ (fbor κ (Held T.the-row (length zs) b o γ)) ∷ ‵ (flft κ q) ∷ [])) (Post (n-mach y))
   exits zs y len gy ez ey =
       qed W (‵ (fobs γ (codedHoleys T.the-row .code (heres T.the-row zs))) ∷ ‵ (fbor κ (Held T.the-row (length zs) b o γ)) ∷ ‵ (flft κ q) ∷ []) ∵
@@ -161,12 +161,12 @@ module _ {M : Type 1} (𝓤 : URA M) (H : Heap 𝓤) (A : Atoms 𝓤) (W : Given
       qed W [] ∵ nothing ! $ owned ! G.the-row (Is G.the-row) (EL.makes G.the-type G′.the-plain 𝓤 H A) e _ ge $ fjoin ! $ owned ! F.the-row (Is F.the-row) (EL.makes F.the-type F′.the-plain 𝓤 H A) p _ gp $ fjoin ! $
       owned ! usize (Is usize) (uint-makes 𝓤 H A W w64) n _ (refl, room .0) $ fjoin ! $ nothing ! $ join ! $ frame ! $ done !
 
-  abbrev to-swap : Device → Exchange → Swap 𝓤 H A at-mem run .Ghost
-  to-swap d y = ((tt, tt, tt, (d, (y, tt)), (mach d ∷ [], (x-mach y ∷ [], tt))), tt)
+  abbrev to-swap : Record → Exchange → Swap 𝓤 H A at-mem run .Ghost
+  to-swap h y = ((tt, tt, tt, (h, (y, tt)), (mach h ∷ [], (x-mach y ∷ [], tt))), tt)
 
-  goes-swap : (d : Device) (y : Exchange) → IsD d → IsX y → ent 𝓤 (emp 𝓤) (Swap 𝓤 H A at-mem run .pre (to-swap d y))
-  goes-swap d y gd gy =
-      qed W [] ∵ nothing ! $ owned ! X.the-row (Is X.the-row) (LL.makes X.the-type X′.the-plain 𝓤 H A) y _ gy $ fjoin ! $ owned ! T.the-row (Is T.the-row) (LL.makes T.the-type T′.the-plain 𝓤 H A) d _ gd $ fjoin ! $ nothing ! $ join ! $ frame ! $ done !
+  goes-swap : (h : Record) (y : Exchange) → IsT h → IsX y → ent 𝓤 (emp 𝓤) (Swap 𝓤 H A at-mem run .pre (to-swap h y))
+  goes-swap h y gd gy =
+      qed W [] ∵ nothing ! $ owned ! X.the-row (Is X.the-row) (LL.makes X.the-type X′.the-plain 𝓤 H A) y _ gy $ fjoin ! $ owned ! T.the-row (Is T.the-row) (LL.makes T.the-type T′.the-plain 𝓤 H A) h _ gd $ fjoin ! $ nothing ! $ join ! $ frame ! $ done !
 
   -- the index of a record fits, and so does its offset
   at-fits : (i : ℕ) → i < n → i < 2 ^ 64
@@ -193,7 +193,7 @@ module _ {M : Type 1} (𝓤 : URA M) (H : Heap 𝓤) (A : Atoms 𝓤) (W : Given
       E = (N′.mir, l₀) ∷ (ref, l₁) ∷ (F′.mir, l₂) ∷ (G′.mir, l₃) ∷ (X′.mir, l₄) ∷ (tyInt w64, l₅) ∷ (U′.mir, l₆) ∷ (tyInt w64, l₇) ∷ (tyBool, l₈) ∷ (tyInt w64, l₉) ∷ (tyPtr, l₁₀) ∷ (T′.mir, l₁₁) ∷ (tyPtr, l₁₂) ∷ []
 
       -- where a turn begins: the row is zs and the exchange y; the open borrow; and the locals, the last first
-      abbrev At : List Device → Exchange → List (Item 𝓤)
+      abbrev At : List Record → Exchange → List (Item 𝓤)
       At zs y = ‵ (row T.the-row fullShare zs b o) ∷ ‵ (fobor κ q (Held T.the-row n b o γ)) ∷ ‵ (fobs γ (codedHoleys T.the-row .code (heres T.the-row xs))) ∷ ‵ (fauth γ (codedHoleys T.the-row .code (heres T.the-row xs)))
           ∷ ‵ (froom tyPtr l₁₂ 0) ∷ ‵ (fdies tyPtr l₁₂) ∷ ‵ (froom T′.mir l₁₁ 0) ∷ ‵ (fdies T′.mir l₁₁) ∷ ‵ (froom tyPtr l₁₀ 0) ∷ ‵ (fdies tyPtr l₁₀) ∷ ‵ (froom (tyInt w64) l₉ 0) ∷ ‵ (fdies (tyInt w64) l₉)
           ∷ ‵ (froom tyBool l₈ 0) ∷ ‵ (fdies tyBool l₈) ∷ ‵ (froom (tyInt w64) l₇ 0) ∷ ‵ (fdies (tyInt w64) l₇) ∷ ‵ (froom U′.mir l₆ 0) ∷ ‵ (fdies U′.mir l₆) ∷ ‵ (froom (tyInt w64) l₅ 0) ∷ ‵ (fdies (tyInt w64) l₅)
@@ -202,7 +202,7 @@ module _ {M : Type 1} (𝓤 : URA M) (H : Heap 𝓤) (A : Atoms 𝓤) (W : Given
 
       -- the invariant, with the turns that are left
       abbrev State : Type 0
-      State = ℕ × (List Device × Exchange)
+      State = ℕ × (List Record × Exchange)
 
       abbrev Fact : State → Type 0
       Fact u = Reach xs p e (u .0) (u .1 .0) (u .1 .1) × ((length (u .1 .0) ≡ n) × IsX (u .1 .1))
@@ -218,8 +218,8 @@ module _ {M : Type 1} (𝓤 : URA M) (H : Heap 𝓤) (A : Atoms 𝓤) (W : Given
       Left = afterBlock 𝓤 H (afterSeq 𝓤 H (Wp 𝓤 H C Λ E mir.t-4 (atReturn 𝓤 H E Post)) (atReturn 𝓤 H E Post))
 
       -- a turn: what `swap` returns at the record is stored there
-      more : (zs : List Device) (y : Exchange) (Q : SProp 𝓤) → y .index < y .length → y .index < length zs → y .index < n → IsX y
-          → ((r : Swapped) → r ≡ swapOf (getD zs (y .index) none) y → IsX (r .exchange) → Sq W (At (set zs (y .index) (r .device)) (r .exchange)) (prop Q)) → Sq W (At zs y) (runs C Λ E mir.turn-1 (anyQ (afterTurn 𝓤 H Q Left)))
+      more : (zs : List Record) (y : Exchange) (Q : SProp 𝓤) → y .index < y .length → y .index < length zs → y .index < n → IsX y
+          → ((r : Swapped) → r ≡ swapOf (getD zs (y .index) none) y → IsX (r .exchange) → Sq W (At (set zs (y .index) (r .after)) (r .exchange)) (prop Q)) → Sq W (At zs y) (runs C Λ E mir.turn-1 (anyQ (afterTurn 𝓤 H Q Left)))
       unfolding afterTurn
       more zs y Q lt within l gy k =
           assigns ! (bin ! (load ! (from ! (fld ! refl (stop !))) (look-in ! 20 (sub ! 3 refl (whole !)))) (load ! (from ! (fld ! refl (stop !))) (look-in ! 20 (sub ! 2 refl (whole !)))) tt) (from ! (stop !)) (init ! 12 refl (tt, tt)) $
@@ -243,19 +243,19 @@ module _ {M : Type 1} (𝓤 : URA M) (H : Heap 𝓤) (A : Atoms 𝓤) (W : Given
           assigns ! (bin ! (load ! (from ! (fld ! refl (stop !))) (look-in ! 28 (sub ! 0 refl (whole !)))) (load ! (from ! (stop !)) (look ! 12 refl)) tt) (from ! (stop !)) (init ! 6 refl (tt, tt)) $
           rewrite ! 6 (λ (a : ℕ). ‵ (fat fullShare tyPtr l₁₂ 0 (vptr b a))) (sym (place-is (mem T.the-row .size) o (y .index))) refl $
           assigns ! (of-opd ! (load ! (from ! (fld ! refl (stop !))) (look-in ! 18 (sub ! 0 refl (whole !))))) (from ! (hop ! (look ! 6 refl) (stop !)))
-          (store-raw ! 0 refl (LL.lawful T.the-type T′.the-laws 𝓤 H A W .typed (r .device) _ (LL.owed U.the-type U′.the-laws r _ is .0) .0)) $
-          move ! (1 ∷ []) $ drop ! $ owned ! T.the-row (Is T.the-row) (LL.makes T.the-type T′.the-plain 𝓤 H A) (r .device) _ (LL.owed U.the-type U′.the-laws r _ is .0) $ move ! (1 ∷ 0 ∷ []) $
-          elem-put ! T.the-row fullShare zs (y .index) (r .device) (mach (r .device) ∷ []) b o within $
+          (store-raw ! 0 refl (LL.lawful T.the-type T′.the-laws 𝓤 H A W .typed (r .after) _ (LL.owed U.the-type U′.the-laws r _ is .0) .0)) $
+          move ! (1 ∷ []) $ drop ! $ owned ! T.the-row (Is T.the-row) (LL.makes T.the-type T′.the-plain 𝓤 H A) (r .after) _ (LL.owed U.the-type U′.the-laws r _ is .0) $ move ! (1 ∷ 0 ∷ []) $
+          elem-put ! T.the-row fullShare zs (y .index) (r .after) (mach (r .after) ∷ []) b o within $
           assigns-last ! (of-opd ! (load ! (from ! (fld ! refl (stop !))) (look-in ! 16 (sub ! 1 refl (whole !))))) (from ! (stop !)) (store ! 20 refl (LL.lawful X.the-type X′.the-laws 𝓤 H A W .typed (r .exchange) _ (LL.owed U.the-type U′.the-laws r _ is .1 .0) .0)) $
           forget ! 4 refl $ forget ! 6 refl $ forget ! 8 refl $ forget ! 10 refl $ forget ! 12 refl $ forget ! 16 refl $ forget ! 18 refl $ k r is-swap (LL.owed U.the-type U′.the-laws r _ is .1 .0))))))
 
       -- the turn that leaves the loop, and the rest of the body: the borrow is closed at the row as it is
-      ends : (zs : List Device) (y : Exchange) (Q : SProp 𝓤) → length zs ≡ n → y .length ≤ y .index → IsX y → zs ≡ rowAfter xs p e → y .reply ≡ rowReply xs p e → Sq W (At zs y) (runs C Λ E mir.turn-1 (anyQ (afterTurn 𝓤 H Q Left)))
+      ends : (zs : List Record) (y : Exchange) (Q : SProp 𝓤) → length zs ≡ n → y .length ≤ y .index → IsX y → zs ≡ rowAfter xs p e → y .reply ≡ rowReply xs p e → Sq W (At zs y) (runs C Λ E mir.turn-1 (anyQ (afterTurn 𝓤 H Q Left)))
       unfolding afterTurn
       ends zs y Q len over gy ez ey =
           assigns ! (bin ! (load ! (from ! (fld ! refl (stop !))) (look-in ! 20 (sub ! 3 refl (whole !)))) (load ! (from ! (fld ! refl (stop !))) (look-in ! 20 (sub ! 2 refl (whole !)))) tt) (from ! (stop !)) (init ! 12 refl (tt, tt)) $
           rewrite ! 12 (λ (t : Bool). ‵ (fat fullShare tyBool l₈ 0 (vbool t))) (le-ltb (y .index) (y .length) over) refl $ leaves-loop ! (load ! (from ! (stop !)) (look ! 12 refl)) $ exec ! C Λ E mir.t-4 (atRet E Post) $
-          assigns ! (of-opd ! (load ! (from ! (fld ! refl (stop !))) (look-in ! 20 (sub ! 5 refl (whole !))))) (from ! (stop !)) (init ! 28 refl (LL.lawful N.the-type N′.the-laws 𝓤 H A W .typed (y .reply) _ (reply-is y gy) .0)) $
+          assigns ! (of-opd ! (load ! (from ! (fld ! refl (stop !))) (look-in ! 20 (sub ! 6 refl (whole !))))) (from ! (stop !)) (init ! 28 refl (LL.lawful N.the-type N′.the-laws 𝓤 H A W .typed (y .reply) _ (reply-is y gy) .0)) $
           closes-slice ! tt T.the-row xs zs len b o $
           -- [obs; the borrow; the token; _12; …; _0; …]
           returns ! (look ! 27 refl) $ forget ! 11 refl $ forget ! 19 refl $ forget ! 21 refl $ forget ! 23 refl $ forget ! 25 refl $ forget ! 27 refl $
@@ -263,15 +263,15 @@ module _ {M : Type 1} (𝓤 : URA M) (H : Heap 𝓤) (A : Atoms 𝓤) (W : Given
           move ! (15 ∷ 16 ∷ []) $ free1 ! $ move ! (13 ∷ 14 ∷ []) $ free1 ! $ move ! (11 ∷ 12 ∷ []) $ free1 ! $ move ! (9 ∷ 10 ∷ []) $ free1 ! $ move ! (7 ∷ 8 ∷ []) $ free1 ! $ move ! (5 ∷ 6 ∷ []) $ free1 ! $ move ! (3 ∷ 4 ∷ []) $ free1 ! $ free0 ! $
           by ! (exits zs (y .reply) len (reply-is y gy) ez ey)
 
-      next-fact : (t : ℕ) (zs : List Device) (y : Exchange) (r : Swapped) → Fact (suc t, (zs, y)) → r ≡ swapOf (getD zs (y .index) none) y → IsX (r .exchange) → Fact (t, (set zs (y .index) (r .device), r .exchange))
-      next-fact t zs y r f is-swap gr = (subst (λ (u : Swapped). Reach xs p e t (set zs (y .index) (u .device)) (u .exchange)) (sym is-swap) (f .0 .1 .1), (length-set zs (y .index) (r .device) ∙ f .1 .0, gr))
+      next-fact : (t : ℕ) (zs : List Record) (y : Exchange) (r : Swapped) → Fact (suc t, (zs, y)) → r ≡ swapOf (getD zs (y .index) none) y → IsX (r .exchange) → Fact (t, (set zs (y .index) (r .after), r .exchange))
+      next-fact t zs y r f is-swap gr = (subst (λ (u : Swapped). Reach xs p e t (set zs (y .index) (u .after)) (u .exchange)) (sym is-swap) (f .0 .1 .1), (length-set zs (y .index) (r .after) ∙ f .1 .0, gr))
 
       -- a turn from the invariant: none is left, and the loop is left; or one is taken, which ends in the invariant with one less left
-      turn-at : (t : ℕ) (zs : List Device) (y : Exchange) → Sq W (Inv (t, (zs, y))) (runs C Λ E mir.turn-1 (anyQ (afterTurn 𝓤 H (Below 𝓤 H A ≺ Inv (t, (zs, y))) Left)))
+      turn-at : (t : ℕ) (zs : List Record) (y : Exchange) → Sq W (Inv (t, (zs, y))) (runs C Λ E mir.turn-1 (anyQ (afterTurn 𝓤 H (Below 𝓤 H A ≺ Inv (t, (zs, y))) Left)))
       turn-at zero zs y = learn ! (λ f. drop ! $ ends zs y _ (f .1 .0) (f .0 .0) (f .1 .1) (f .0 .1 .0) (f .0 .1 .1))
       turn-at (suc t) zs y = learn ! (λ f. drop ! $ more zs y _ (f .0 .0) (f .0 .1 .0) (subst (λ (m : ℕ). y .index < m) (f .1 .0) (f .0 .1 .0)) (f .1 .1) (λ r is-swap gr.
-          use0 W (given (Fact (t, (set zs (y .index) (r .device), r .exchange))) (‵ ftrue)) (guardI 𝓤 (Fact (t, (set zs (y .index) (r .device), r .exchange))) (emp 𝓤) (next-fact t zs y r f is-swap gr)) $
-          again ! ≺ Inv (suc t, (zs, y)) (t, (set zs (y .index) (r .device), r .exchange)) (lt-suc-self t)))
+          use0 W (given (Fact (t, (set zs (y .index) (r .after), r .exchange))) (‵ ftrue)) (guardI 𝓤 (Fact (t, (set zs (y .index) (r .after), r .exchange))) (emp 𝓤) (next-fact t zs y r f is-swap gr)) $
+          again ! ≺ Inv (suc t, (zs, y)) (t, (set zs (y .index) (r .after), r .exchange)) (lt-suc-self t)))
 
       looped : (y : Exchange) → y ≡ beginOf n p e → IsX y → Sq W (At xs y) (runs C Λ E mir.t-3 (atRet E Post))
       looped y y-is gy =

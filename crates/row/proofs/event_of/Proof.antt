@@ -5,7 +5,7 @@ use Prim.Native.Nat.{ℕ, _≤_}
 use native.Mathlib.Omega.{arith}
 use lib.ListN.{length, drop-of-length-le}
 use lib.Seq.{take-all}
-use Rattle.device.specs.declared.Device.{Device}
+use Rattle.totals.specs.declared.Record.{Record}
 use Rattle.device.specs.declared.Phase.{Phase}
 use Rattle.bus.specs.declared.SignalEvent.{SignalEvent}
 use Rattle.row.specs.Row.{rowOf}
@@ -14,11 +14,11 @@ use Rattle.row.proofs.event_of.Statement.{statement}
 use Rattle.row.proofs.event_of.Tie as tie
 
 -- any number from 9 on takes all nine records
-all-nine : (ds : List Device) (n : ℕ) (p : Phase) (e : SignalEvent) → length ds ≤ 9 → 9 ≤ n → rowOf ds 9 p e ≡ rowOf ds n p e
+all-nine : (rs : List Record) (n : ℕ) (p : Phase) (e : SignalEvent) → length rs ≤ 9 → 9 ≤ n → rowOf rs 9 p e ≡ rowOf rs n p e
 unfolding rowOf
-all-nine ds n p e h k =
-    let m : length ds ≤ n = omega arith in
-    rw (take-all 9 ds h, take-all n ds m, drop-of-length-le ds h, drop-of-length-le ds m)
+all-nine rs n p e h k =
+    let m : length rs ≤ n = omega arith in
+    rw (take-all 9 rs h, take-all n rs m, drop-of-length-le rs h, drop-of-length-le rs m)
 
 returns-2 : tie.Need-returns-2
 returns-2 c = c .event-within2 .ensures ∙ all-nine _ _ _ _ (search needs) (search needs)

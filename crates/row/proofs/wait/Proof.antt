@@ -38,13 +38,13 @@ use denote.Triple.Table.{entered, cited}
 use denote.Triple.Walked.{says, Stays, stay-ref, stay-none, walkOf, AllGo, goes-none, goes-ref, Walks, ends-at, walked, walk-meets}
 use denote.Triple.Clauses.{ensured, lasts}
 use denote.Exit.{yes}
-use Rattle.device.specs.declared.Device.{Device}
+use Rattle.totals.specs.declared.Record.{Record}
 use Rattle.row.specs.declared.Waited.{Waited}
 use Rattle.row.specs.declared.Answer.{Answer}
 use Rattle.row.specs.Wait.{waitedRecord}
 use Rattle.row.proofs.Values.{mach}
-use Rattle.device.proofs.Device as T
-use Rattle.device.proofs.Device.Laws as T′
+use Rattle.totals.proofs.Record as T
+use Rattle.totals.proofs.Record.Laws as T′
 use Rattle.row.proofs.Waited as U
 use Rattle.row.proofs.Waited.Laws as U′
 use Rattle.row.proofs.Answer as N
@@ -59,7 +59,7 @@ use Rattle.row.proofs.wait.Statement as stated
 use Rattle.row.proofs.wait.Code as code
 
 abbrev Arg : Type 0
-Arg = RefT Device × (ℕ × Unit {0})
+Arg = RefT Record × (ℕ × Unit {0})
 
 abbrev stayed : Stays (wait.ended .signature .params) (wait.ended .kept)
 stayed = (stay-ref (0 ∷ []) tt (plain (λ _. T.the-row)), (stay-none (λ _. u64) yes, tt))
@@ -77,10 +77,10 @@ module _ {M : Type 1} (𝓤 : URA M) (H : Heap 𝓤) (A : Atoms 𝓤) (mem : Mem
   WaitedRecord = tripleOf 𝓤 H A waited-record.signature (waited-record.spec 𝓤 H A mem run)
 
   -- of the callee's `ensured`, the clause alone
-  said-of : (h : Device) (n : ℕ) (r : Waited) → ent 𝓤 (ensured 𝓤 H A waited-record.ended (waited-record.clauses 𝓤 H A mem run) tt (h, (n, tt)) tt r) (fact 𝓤 (r ≡ waitedRecord h n))
+  said-of : (h : Record) (n : ℕ) (r : Waited) → ent 𝓤 (ensured 𝓤 H A waited-record.ended (waited-record.clauses 𝓤 H A mem run) tt (h, (n, tt)) tt r) (fact 𝓤 (r ≡ waitedRecord h n))
   said-of h n r = exE 𝓤 _ (λ ws. snd∗ 𝓤 (sem 𝓤 H A (lasts waited-record.ended tt (h, (n, tt)) ws)) (fact 𝓤 (r ≡ waitedRecord h n)))
 
-module _ {M : Type 1} (𝓤 : URA M) (H : Heap 𝓤) (A : Atoms 𝓤) (W : Given 𝓤 H A) (at-mem : Memory → SProp 𝓤) (run : Routine → Fun 𝓤) (κ : Lft) (q : Share) (b o : ℕ) (γ : GName) (h : Device) (n : ℕ) (n-fits : n < 2 ^ 64) where
+module _ {M : Type 1} (𝓤 : URA M) (H : Heap 𝓤) (A : Atoms 𝓤) (W : Given 𝓤 H A) (at-mem : Memory → SProp 𝓤) (run : Routine → Fun 𝓤) (κ : Lft) (q : Share) (b o : ℕ) (γ : GName) (h : Record) (n : ℕ) (n-fits : n < 2 ^ 64) where
   abbrev x : Arg
   x = (record { ptr = (b, o); name = γ; now = h }, (n, tt))
 
@@ -90,15 +90,15 @@ module _ {M : Type 1} (𝓤 : URA M) (H : Heap 𝓤) (A : Atoms 𝓤) (W : Given
   abbrev Post : Val → SProp 𝓤
   Post = walkOf 𝓤 H A wait.ended stayed (wait.clauses 𝓤 H A at-mem run) .post (((κ, tt), (q, tt), tt, x, at), tt)
 
-  exits : (r : Waited) → r ≡ waitedRecord h n → IsN (r .answer) → ent 𝓤 (sep 𝓤 (A .obs γ (T.the-row .coded .code (r .device))) (sep 𝓤 (A .bor κ (Body (mem T.the-row) b o γ)) (A .lft κ q))) (Post (n-mach (r .answer)))
+  exits : (r : Waited) → r ≡ waitedRecord h n → IsN (r .answer) → ent 𝓤 (sep 𝓤 (A .obs γ (T.the-row .coded .code (r .after))) (sep 𝓤 (A .bor κ (Body (mem T.the-row) b o γ)) (A .lft κ q))) (Post (n-mach (r .answer)))
   exits r e gy =
-      qed W (‵ (fobs γ (T.the-row .coded .code (r .device))) ∷ ‵ (fbor κ (Body (mem T.the-row) b o γ)) ∷ ‵ (flft κ q) ∷ []) ∵
-      suffices ! _ (ends-at 𝓤 H A wait.ended stayed (wait.clauses 𝓤 H A at-mem run) W (((κ, tt), (q, tt), tt, x, at), tt) (n-mach (r .answer)) (r .answer) (r .device, (tt, tt)) (tt, (tt, tt))) $
-      says ! (ap (λ (u : Waited). u .device) e, ap (λ (u : Waited). u .answer) e) $ nothing ! $ move ! (3 ∷ 0 ∷ []) $ join ! $
+      qed W (‵ (fobs γ (T.the-row .coded .code (r .after))) ∷ ‵ (fbor κ (Body (mem T.the-row) b o γ)) ∷ ‵ (flft κ q) ∷ []) ∵
+      suffices ! _ (ends-at 𝓤 H A wait.ended stayed (wait.clauses 𝓤 H A at-mem run) W (((κ, tt), (q, tt), tt, x, at), tt) (n-mach (r .answer)) (r .answer) (r .after, (tt, tt)) (tt, (tt, tt))) $
+      says ! (ap (λ (u : Waited). u .after) e, ap (λ (u : Waited). u .answer) e) $ nothing ! $ move ! (3 ∷ 0 ∷ []) $ join ! $
       frame ! $ feqI ! (List Val) (vptr b o ∷ []) (vptr b o ∷ []) refl $ fjoin3 ! $ nothing ! $ owned ! u64 (Is u64) (uint-makes 𝓤 H A W w64) n _ (refl, n-fits) $ fjoin ! $ move ! (1 ∷ 0 ∷ []) $ fjoin ! $
       owned ! N.the-row (Is N.the-row) (LL.makes N.the-type N′.the-plain 𝓤 H A) (r .answer) _ gy $ move ! (1 ∷ 0 ∷ []) $ done !
 
-  -- what `waited_record`'s triple binds outside, and that what it asks is had for nothing: a device owns only facts
+  -- what `waited_record`'s triple binds outside, and that what it asks is had for nothing: a record owns only facts
   abbrev to : WaitedRecord 𝓤 H A at-mem run .Ghost
   to = ((tt, tt, tt, (h, (n, tt)), (mach h ∷ [], (vint w64 n ∷ [], tt))), tt)
 
@@ -126,9 +126,9 @@ module _ {M : Type 1} (𝓤 : URA M) (H : Heap 𝓤) (A : Atoms 𝓤) (W : Given
         land ! (from ! (stop !)) (init ! 8 refl (LL.lawful U.the-type U′.the-laws 𝓤 H A W .typed r _ is .0)) $
         rewrite ! 8 (λ (u : Val). ‵ (fat fullShare U′.mir l₃ 0 u)) (ap only (LL.tells U.the-type U′.the-laws r _ is)) refl $ drop ! $
         assigns ! (of-opd ! (load ! (from ! (fld ! refl (stop !))) (look-in ! 7 (sub ! 0 refl (whole !))))) (from ! (hop ! (look ! 11 refl) (stop !)))
-        (store-raw ! 0 refl (LL.lawful T.the-type T′.the-laws 𝓤 H A W .typed (r .device) _ (LL.owed U.the-type U′.the-laws r _ is .0) .0)) $
+        (store-raw ! 0 refl (LL.lawful T.the-type T′.the-laws 𝓤 H A W .typed (r .after) _ (LL.owed U.the-type U′.the-laws r _ is .0) .0)) $
         assigns ! (of-opd ! (load ! (from ! (fld ! refl (stop !))) (look-in ! 7 (sub ! 1 refl (whole !))))) (from ! (stop !)) (init ! 13 refl (LL.lawful N.the-type N′.the-laws 𝓤 H A W .typed (r .answer) _ (LL.owed U.the-type U′.the-laws r _ is .1 .0) .0)) $
-        move ! (1 ∷ []) $ drop ! $ owned ! T.the-row (Is T.the-row) (LL.makes T.the-type T′.the-plain 𝓤 H A) (r .device) _ (LL.owed U.the-type U′.the-laws r _ is .0) $ move ! (1 ∷ 0 ∷ []) $ closes ! tt T.the-row (r .device) (mach (r .device) ∷ []) b o $
+        move ! (1 ∷ []) $ drop ! $ owned ! T.the-row (Is T.the-row) (LL.makes T.the-type T′.the-plain 𝓤 H A) (r .after) _ (LL.owed U.the-type U′.the-laws r _ is .0) $ move ! (1 ∷ 0 ∷ []) $ closes ! tt T.the-row (r .after) (mach (r .after) ∷ []) b o $
         returns ! (look ! 11 refl) $ forget ! 3 refl $ forget ! 5 refl $ forget ! 7 refl $ forget ! 9 refl $ forget ! 11 refl $
         move ! (11 ∷ 12 ∷ []) $ free1 ! $ move ! (9 ∷ 10 ∷ []) $ free1 ! $ move ! (7 ∷ 8 ∷ []) $ free1 ! $ move ! (5 ∷ 6 ∷ []) $ free1 ! $ move ! (3 ∷ 4 ∷ []) $ free1 ! $ free0 ! $
         keep ! (0 ∷ 1 ∷ 2 ∷ []) $ by ! (exits r e (LL.owed U.the-type U′.the-laws r _ is .1 .0)))))))))))))

@@ -3,9 +3,9 @@ use mathlib.Core.Path.{ap, _∙_}
 use mathlib.Core.Bool.{not}
 use mathlib.Core.List.{[], _∷_}
 use borrow.Author.Needs.{needs}
-use Rattle.device.specs.Wait.{overrunsFor}
-use Rattle.device.specs.WellFormed.{recordOk}
-use Rattle.device.specs.laws.Wait.{bare-overruns}
+use Rattle.totals.specs.Totals.{legalRecord}
+use Rattle.totals.specs.Wait.{exceedsFor}
+use Rattle.totals.specs.laws.Wait.{bare-exceeds}
 use Rattle.refusals.specs.Refusals.{refuse}
 use Rattle.refusals.specs.laws.Refusals.{refused-first, refused-more}
 use Rattle.row.proofs.wait_code.Statement.{statement}
@@ -17,10 +17,10 @@ returns c =
     let code = long .before in
     let ok = code .before in
     let duration = ok .before in
-    let a = duration .before .args in
-    let first = refused-first 4 _ _ _ (ap not (ok .is-ok .ensures)) (code .or-refused .ensures) in
-    refused-more (refuse 4 (not (recordOk (a .device))) ∷ []) 6 _ _ _ _ first
-    (long .overruns .ensures ∙ ap (overrunsFor (a .device)) (duration .own-duration .ensures) ∙ bare-overruns (a .device) (a .ticks)) (c .or-refused2 .ensures)
+    let a = duration .before .before .args in
+    let first = refused-first 4 _ _ _ (ap not (ok .is-legal .ensures)) (code .or-refused .ensures) in
+    refused-more (refuse 4 (not (legalRecord (a .r))) ∷ []) 6 _ _ _ _ first
+    (long .record-exceeds .ensures ∙ ap (exceedsFor (a .r)) (duration .own-duration .ensures) ∙ bare-exceeds (a .r) (a .ticks)) (c .or-refused2 .ensures)
 
 pub wait-code-spec : {M : Type 1} → statement M
 wait-code-spec = tie.close (tie.spec (λ c κs. search needs) (λ c κs. search needs) (λ c κs. search needs) (λ c κs. search needs) (λ c κs. search needs) returns)

@@ -1,4 +1,4 @@
--- `row::wait_of` meets its contract: a walk of its MIR, by hand. The device in a local is lent for a lifetime that the walk makes, `wait` is called with the borrow, the lifetime is ended, and the device is taken back as `wait` says that it left it.
+-- `row::wait_of` meets its contract: a walk of its MIR, by hand. The record in a local is lent for a lifetime that the walk makes, `wait` is called with the borrow, the lifetime is ended, and the record is taken back as `wait` says that it left it.
 use mathlib.Core.Path.{_≡_, refl, ap, subst}
 use Prim.Native.Nat.{ℕ, _<_, _^_}
 use mathlib.Core.List.{[], _∷_, List}
@@ -37,14 +37,14 @@ use denote.Triple.Table.{entered, cited}
 use denote.Triple.Walked.{says, Stays, stay-none, walkOf, goes-none, Walks, ends-at, walked, walk-meets}
 use denote.Triple.Clauses.{ensured, lasts}
 use denote.Exit.{yes}
-use Rattle.device.specs.declared.Device.{Device}
+use Rattle.totals.specs.declared.Record.{Record}
 use Rattle.row.specs.declared.Waited.{Waited}
 use Rattle.row.specs.declared.Answer.{Answer}
 use Rattle.row.specs.Wait.{waitedRecord}
-use Rattle.row.proofs.Values.{mach, IsD}
+use Rattle.row.proofs.Values.{mach, IsT}
 use Rattle.row.proofs.Lies.{lies-in, lies-out}
-use Rattle.device.proofs.Device as T
-use Rattle.device.proofs.Device.Laws as T′
+use Rattle.totals.proofs.Record as T
+use Rattle.totals.proofs.Record.Laws as T′
 use Rattle.row.proofs.Waited as U
 use Rattle.row.proofs.Waited.Laws as U′
 use Rattle.row.proofs.Answer as N
@@ -68,11 +68,11 @@ abbrev IsN : Answer → Type 0
 IsN y = Is N.the-row y (n-mach y ∷ [])
 
 -- the result, of what `wait` left and answered
-abbrev made : Device → Answer → Waited
-made d y = record { device = d; answer = y }
+abbrev made : Record → Answer → Waited
+made h y = record { after = h; answer = y }
 
-made-is : (d : Device) (y : Answer) → IsD d → IsN y → Is U.the-row (made d y) (LL.vals U.the-type U′.the-laws (made d y))
-made-is d y g gy = LL.owes U.the-type U′.the-laws (made d y) (g, (gy, tt))
+made-is : (h : Record) (y : Answer) → IsT h → IsN y → Is U.the-row (made h y) (LL.vals U.the-type U′.the-laws (made h y))
+made-is h y g gy = LL.owes U.the-type U′.the-laws (made h y) (g, (gy, tt))
 
 -- the same, at the values that the relation tells
 only-is : (y : Answer) (v : Val) → Is N.the-row y (v ∷ []) → IsN y
@@ -82,22 +82,22 @@ module _ {M : Type 1} (𝓤 : URA M) (H : Heap 𝓤) (A : Atoms 𝓤) (mem : Mem
   abbrev Wait : Contract 𝓤
   Wait = tripleOf 𝓤 H A wait.signature (wait.spec 𝓤 H A mem run)
 
-module _ {M : Type 1} (𝓤 : URA M) (H : Heap 𝓤) (A : Atoms 𝓤) (W : Given 𝓤 H A) (at-mem : Memory → SProp 𝓤) (run : Routine → Fun 𝓤) (d : Device) (n : ℕ) (g : IsD d) (n-fits : n < 2 ^ 64) where
+module _ {M : Type 1} (𝓤 : URA M) (H : Heap 𝓤) (A : Atoms 𝓤) (W : Given 𝓤 H A) (at-mem : Memory → SProp 𝓤) (run : Routine → Fun 𝓤) (h : Record) (n : ℕ) (g : IsT h) (n-fits : n < 2 ^ 64) where
   abbrev vals : List Val × (List Val × Unit {0})
-  vals = (mach d ∷ [], (vint w64 n ∷ [], tt))
+  vals = (mach h ∷ [], (vint w64 n ∷ [], tt))
 
   abbrev Post : Val → SProp 𝓤
-  Post = walkOf 𝓤 H A wait-of.ended stayed (wait-of.clauses 𝓤 H A at-mem run) .post ((tt, tt, tt, (d, (n, tt)), vals), tt)
+  Post = walkOf 𝓤 H A wait-of.ended stayed (wait-of.clauses 𝓤 H A at-mem run) .post ((tt, tt, tt, (h, (n, tt)), vals), tt)
 
-  exits : (d′ : Device) (y : Answer) → IsD d′ → IsN y → (d′ ≡ waitedRecord d n .device) × (y ≡ waitedRecord d n .answer) → ent 𝓤 (emp 𝓤) (Post (LL.val U.the-type U′.the-laws (made d′ y)))
-  exits d′ y g′ gy e =
-      qed W [] ∵ suffices ! _ (ends-at 𝓤 H A wait-of.ended stayed (wait-of.clauses 𝓤 H A at-mem run) W ((tt, tt, tt, (d, (n, tt)), vals), tt) (LL.val U.the-type U′.the-laws (made d′ y)) (made d′ y) (tt, (tt, tt)) (tt, (tt, tt))) $
-      says ! (λ i. made (e .0 i) (e .1 i)) $ owned ! U.the-row (Is U.the-row) (LL.makes U.the-type U′.the-plain 𝓤 H A) (made d′ y) _ (made-is d′ y g′ gy) $
-      nothing ! $ owned ! u64 (Is u64) (uint-makes 𝓤 H A W w64) n _ (refl, n-fits) $ fjoin ! $ owned ! T.the-row (Is T.the-row) (LL.makes T.the-type T′.the-plain 𝓤 H A) d _ g $ fjoin ! $ nothing ! $ done !
+  exits : (h′ : Record) (y : Answer) → IsT h′ → IsN y → (h′ ≡ waitedRecord h n .after) × (y ≡ waitedRecord h n .answer) → ent 𝓤 (emp 𝓤) (Post (LL.val U.the-type U′.the-laws (made h′ y)))
+  exits h′ y g′ gy e =
+      qed W [] ∵ suffices ! _ (ends-at 𝓤 H A wait-of.ended stayed (wait-of.clauses 𝓤 H A at-mem run) W ((tt, tt, tt, (h, (n, tt)), vals), tt) (LL.val U.the-type U′.the-laws (made h′ y)) (made h′ y) (tt, (tt, tt)) (tt, (tt, tt))) $
+      says ! (λ i. made (e .0 i) (e .1 i)) $ owned ! U.the-row (Is U.the-row) (LL.makes U.the-type U′.the-plain 𝓤 H A) (made h′ y) _ (made-is h′ y g′ gy) $
+      nothing ! $ owned ! u64 (Is u64) (uint-makes 𝓤 H A W w64) n _ (refl, n-fits) $ fjoin ! $ owned ! T.the-row (Is T.the-row) (LL.makes T.the-type T′.the-plain 𝓤 H A) h _ g $ fjoin ! $ nothing ! $ done !
 
-  -- what `wait`'s triple binds outside: the device at the local l, lent for the lifetime α under the name γ
-  abbrev lent : ℕ → GName → RefT Device
-  lent l γ = record { ptr = (l, 0); name = γ; now = d }
+  -- what `wait`'s triple binds outside: the record at the local l, lent for the lifetime α under the name γ
+  abbrev lent : ℕ → GName → RefT Record
+  lent l γ = record { ptr = (l, 0); name = γ; now = h }
 
   abbrev to : ℕ → ℕ → GName → Wait 𝓤 H A at-mem run .Ghost
   to l α γ = (((α ∷ [], tt), (fullShare, tt), tt, (lent l γ, (n, tt)), (vptr l 0 ∷ [], (vint w64 n ∷ [], tt))), tt)
@@ -108,29 +108,29 @@ module _ {M : Type 1} (𝓤 : URA M) (H : Heap 𝓤) (A : Atoms 𝓤) (W : Given
       nothing ! $ owned ! u64 (Is u64) (uint-makes 𝓤 H A W w64) n _ (refl, n-fits) $ fjoin ! $ move ! (2 ∷ 0 ∷ []) $ fjoin ! $ nothing ! $ move ! (2 ∷ 0 ∷ []) $ join ! $ join ! $ frame ! $ done !
 
   module _ (C : Calls 𝓤 H) (Λ : Loops 𝓤 H) (fm : FmC 𝓤 H (W .laws) C) (known : Triple 𝓤 (C #row·wait) (Wait 𝓤 H A at-mem run)) where
-    walk : ent 𝓤 (onEntry 𝓤 H A wait-of.signature tt tt (d, (n, tt)) vals) (WpFn 𝓤 H C Λ code.function (mach d ∷ vint w64 n ∷ []) Post)
+    walk : ent 𝓤 (onEntry 𝓤 H A wait-of.signature tt tt (h, (n, tt)) vals) (WpFn 𝓤 H C Λ code.function (mach h ∷ vint w64 n ∷ []) Post)
     walk =
-        qed W (‵ ftrue ∷ ‵ (owns (T.the-row ∷ u64 ∷ []) (d, (n, tt)) vals) ∷ []) ∵ keep ! [] $ enter ! C Λ code.function (mach d ∷ vint w64 n ∷ []) _ $
+        qed W (‵ ftrue ∷ ‵ (owns (T.the-row ∷ u64 ∷ []) (h, (n, tt)) vals) ∷ []) ∵ keep ! [] $ enter ! C Λ code.function (mach h ∷ vint w64 n ∷ []) _ $
         alloc1 ! (λ l₀. alloc1 ! (λ l₁. alloc1 ! (λ l₂. alloc1 ! (λ l₃. alloc1 ! (λ l₄. alloc1 ! (λ l₅. alloc1 ! (λ l₆. alloc0 ! $ params1 ! $
-        pass1 ! (init ! 10 refl (LL.lawful T.the-type T′.the-laws 𝓤 H A W .typed d _ g .0)) $ pass1 ! (init ! 8 refl (tt, record { fits = n-fits })) $ pass0 ! $
+        pass1 ! (init ! 10 refl (LL.lawful T.the-type T′.the-laws 𝓤 H A W .typed h _ g .0)) $ pass1 ! (init ! 8 refl (tt, record { fits = n-fits })) $ pass0 ! $
         -- [_6; …; _5; …; _4; …; _3; …; _2; …; _1; …; room for _0; …]
-        assigns ! (of-opd ! (load ! (from ! (stop !)) (look ! 10 refl))) (from ! (stop !)) (init ! 6 refl (LL.lawful T.the-type T′.the-laws 𝓤 H A W .typed d _ g .0)) $
+        assigns ! (of-opd ! (load ! (from ! (stop !)) (look ! 10 refl))) (from ! (stop !)) (init ! 6 refl (LL.lawful T.the-type T′.the-laws 𝓤 H A W .typed h _ g .0)) $
         assigns ! (addr ! (from ! (stop !))) (from ! (stop !)) (init ! 2 refl (tt, tt)) $
         -- _3 is lent
-        move ! (6 ∷ []) $ use1 W (‵ (mem T.the-row .lies d l₃ 0)) (lies-in 𝓤 H A W d l₃ 0 g) $ lft-new ! tt (λ α. move ! (1 ∷ []) $
-        use1 W (later (some (λ (γ : GName). ‵ (MutRef (named 0) (α ∷ []) T.the-row .own (lent l₃ γ) (vptr l₃ 0 ∷ [])) ⊛ ‵ (flent (α ∷ []) (Body (mem T.the-row) l₃ 0 γ))))) (lends-ref 𝓤 H A W T.the-row (named 0) (α ∷ []) d l₃ 0) $ await ! tt $ pick ! (λ γ. split ! $
+        move ! (6 ∷ []) $ use1 W (‵ (mem T.the-row .lies h l₃ 0)) (lies-in 𝓤 H A W h l₃ 0 g) $ lft-new ! tt (λ α. move ! (1 ∷ []) $
+        use1 W (later (some (λ (γ : GName). ‵ (MutRef (named 0) (α ∷ []) T.the-row .own (lent l₃ γ) (vptr l₃ 0 ∷ [])) ⊛ ‵ (flent (α ∷ []) (Body (mem T.the-row) l₃ 0 γ))))) (lends-ref 𝓤 H A W T.the-row (named 0) (α ∷ []) h l₃ 0) $ await ! tt $ pick ! (λ γ. split ! $
         move ! (2 ∷ 0 ∷ []) $ use2 W (raw (Wait 𝓤 H A at-mem run .pre (to l₃ α γ))) (goes l₃ α γ) $
         -- [what `wait` asks; the lender's part; _6; …; _5; …; _4; …; _3's …; _2; …; _1; …; room for _0; …]
         calls-at ! fm (Wait 𝓤 H A at-mem run) known (to l₃ α γ) (and-then ! (load ! (from ! (stop !)) (look ! 4 refl)) (and-then ! (load ! (from ! (stop !)) (look ! 9 refl)) (no-more !))) (λ v.
         use1 W (later (some (λ (r : Answer). ((‵ (flft (α ∷ []) fullShare) ⊛ ‵ ftrue) ⊛ ‵ (N.the-row .own r (v ∷ []))) ⊛ raw (ensured 𝓤 H A wait.ended (wait.clauses 𝓤 H A at-mem run) (α ∷ [], tt) (lent l₃ γ, (n, tt)) tt r)))) (id⊢ 𝓤 _) $ await ! tt $ pick ! (λ r.
-        split ! $ move ! (1 ∷ []) $ use1 W (some (λ (ws : Device × (Unit {0} × Unit {0})). ‵ (lasts wait.ended (α ∷ [], tt) (lent l₃ γ, (n, tt)) ws) ⊛ raw (fact 𝓤 ((ws .0 ≡ waitedRecord d n .device) × (r ≡ waitedRecord d n .answer))))) (id⊢ 𝓤 _) $ pick ! (λ ws.
-        split ! $ move ! (1 ∷ []) $ heard ! ((ws .0 ≡ waitedRecord d n .device) × (r ≡ waitedRecord d n .answer)) (λ e. fsplit ! $
+        split ! $ move ! (1 ∷ []) $ use1 W (some (λ (ws : Record × (Unit {0} × Unit {0})). ‵ (lasts wait.ended (α ∷ [], tt) (lent l₃ γ, (n, tt)) ws) ⊛ raw (fact 𝓤 ((ws .0 ≡ waitedRecord h n .after) × (r ≡ waitedRecord h n .answer))))) (id⊢ 𝓤 _) $ pick ! (λ ws.
+        split ! $ move ! (1 ∷ []) $ heard ! ((ws .0 ≡ waitedRecord h n .after) × (r ≡ waitedRecord h n .answer)) (λ e. fsplit ! $
         -- [_3's last value; …; the token and the result; the lender's part; _6; …]
         move ! (2 ∷ []) $ split ! $ move ! (1 ∷ []) $ peeks ! N.the-row (Is N.the-row) (shows 𝓤 H A N.the-row) r (v ∷ []) (λ is. drop ! $
         land ! (from ! (stop !)) (init ! 8 refl (LL.lawful N.the-type N′.the-laws 𝓤 H A W .typed r _ is .0)) $ rewrite ! 8 (λ (u : Val). ‵ (fat fullShare N′.mir l₄ 0 u)) (ap only (LL.tells N.the-type N′.the-laws r _ is)) refl $
         -- the lifetime is ended, and _3 is taken back
         split ! $ lft-end ! tt $ move ! (0 ∷ 4 ∷ 2 ∷ []) $ use3 W (later (‵ (mem T.the-row .lies (ws .0) l₃ 0))) (ref-back 𝓤 H A W T.the-row (α ∷ []) γ (ws .0) l₃ 0) $ await ! tt $
-        use1 W (given (IsD (ws .0)) (‵ (fat fullShare T′.mir l₃ 0 (mach (ws .0))))) (lies-out 𝓤 H A W (ws .0) l₃ 0) $ learn ! (λ g′.
+        use1 W (given (IsT (ws .0)) (‵ (fat fullShare T′.mir l₃ 0 (mach (ws .0))))) (lies-out 𝓤 H A W (ws .0) l₃ 0) $ learn ! (λ g′.
         -- [_3; true; …; _6; …; _5; …; _4; …; _3's …; _2; …; _1; …; room for _0; …]
         assigns ! (of-opd ! (load ! (from ! (stop !)) (look ! 0 refl))) (from ! (stop !)) (init ! 3 refl (LL.lawful T.the-type T′.the-laws 𝓤 H A W .typed (ws .0) _ g′ .0)) $
         assigns ! (agg ! (and-then ! (load ! (from ! (stop !)) (look ! 3 refl)) (and-then ! (load ! (from ! (stop !)) (look ! 7 refl)) (no-more !)))) (from ! (stop !))

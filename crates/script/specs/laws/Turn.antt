@@ -11,7 +11,7 @@ use Rattle.bus.specs.declared.Request.{Request}
 use Rattle.bus.specs.declared.Request.the-variants.{Known, Unknown}
 use Rattle.bus.specs.laws.WellFormed.{step-places}
 use Rattle.replay.specs.Replay.{replayed}
-use Rattle.replay.specs.laws.Timed.{replay-places}
+use Rattle.replay.specs.laws.Alike.{replay-places}
 use Rattle.replay.specs.declared.Clock.{Clock}
 use Rattle.replay.specs.declared.Entry.{Entry}
 use Rattle.replay.specs.declared.Replayed.{Replayed}

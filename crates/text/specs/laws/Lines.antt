@@ -6,7 +6,7 @@ use mathlib.Core.List.{List, [], _∷_, _++_, append-assoc, append-nil}
 use mathlib.Core.Logic.{⊎-elim}
 use native.Mathlib.Nat.{le-of-suc-le-suc}
 use native.Mathlib.Omega.{arith}
-use lib.ListN.{length, take, drop, getD, length-append, length-drop}
+use lib.ListN.{length, take, drop, take-append-drop, getD, length-append, length-drop, drop-of-length-le}
 use lib.Seq.{take-all, drop-append-le}
 use lib.Dec.{eqb}
 use Rattle.basics.specs.laws.Logic.{holds, fails, tested, lt-or-ge}
@@ -123,6 +123,12 @@ counted (b ∷ c ∷ l) =
     kept [] h = absurd (omega arith)
     kept (k ∷ ls) h = refl
 
+-- a line ends by the end of the text
+pub end-few : (s : List ℕ) → endOf s ≤ length s
+unfolding endOf
+end-few [] = omega arith
+end-few (b ∷ s) = elim (tested (eqb b 10)) [ holds e ↦ rw e (omega arith) | fails e ↦ rw e (omega (arith, end-few s)) ]
+
 -- the first line, up to its line feed
 pub first-line : (l t : List ℕ) → endOf l < length l → linesOf (take (suc (endOf l)) l ++ t) ≡ take (endOf l) l ∷ linesOf t
 unfolding endOf linesOf
@@ -132,6 +138,13 @@ first-line (b ∷ l) t h =
       | holds e ↦ rw e
       | fails e ↦ rw e (ap (onto b) (first-line l t (le-of-suc-le-suc (rw e at h))))
     ]
+
+-- the first line, with its line feed or without, and those behind it
+pub next-line : (s : List ℕ) → 0 < length s → linesOf s ≡ take (endOf s) s ∷ linesOf (drop (suc (endOf s)) s)
+unfolding linesOf
+next-line s h =
+    ⊎-elim (λ (g : endOf s < length s). ap linesOf (sym (take-append-drop (suc (endOf s)) s)) ∙ first-line s (drop (suc (endOf s)) s) g)
+    (λ (g : length s ≤ endOf s). one-line s h g ∙ rw (take-all (endOf s) s g, drop-of-length-le s {i = suc (endOf s)} (omega arith)) refl) (lt-or-ge (endOf s) (length s))
 
 -- two parts that end with a line
 pub whole-both : (p q : List ℕ) → Whole p → Whole q → Whole (p ++ q)

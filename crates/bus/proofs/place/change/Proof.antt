@@ -1,45 +1,27 @@
--- By its code, which is that of the position and of the change, the device changed or a refusal.
+-- A position that has a number has the least; otherwise the device decides.
 use mathlib.Core.Path.{sym, _∙_}
-use Rattle.refusals.specs.laws.Refusals.{least-none}
-use Rattle.bus.specs.laws.Place.{placed-code}
-use Rattle.bus.specs.laws.Replies.{answered, turned-away}
+use Rattle.bus.specs.Devices.{recordAt}
 use Rattle.bus.specs.Place.{changeRefusals}
-use Rattle.bus.specs.Events.{stepRefusals, stepDone, stepReply}
+use Rattle.bus.specs.Events.{stepReply, stepRefusals}
+use Rattle.bus.specs.laws.Place.{position-first, position-there, changes-above}
+use Rattle.bus.specs.laws.Replies.{turned-away}
 use borrow.Author.Needs.{needs}
 use Rattle.bus.proofs.place.change.Statement.{statement}
 use Rattle.bus.proofs.place.change.Tie as tie
 
-after-change-requires : tie.Need-after-change-requires
-after-change-requires c κs =
-    let own = c .before .before in
-    sym (own .change-code .ensures) ∙ least-none _ _ (sym (c .before .least .ensures) ∙ c .if1 .taken) .1
-
-returns : tie.Need-returns
-unfolding stepReply stepRefusals stepDone
-returns c =
-    let next = c .before .before in
-    let code = next .before .before in
-    let own = code .before in
-    let there = own .before in
-    let d = there .before .device-at .ensures in
-    let a = there .before .before .args in
-    answered _ _ _ _ _
-    (placed-code (a .bus) (a .dev) (λ x. changeRefusals x (a .change)) _ _ _ _ d (there .place-code .ensures) (own .change-code .ensures) (code .least .ensures))
-    (next .before .if1 .taken)
-    (simp (c .done .ensures, c .before .with-device .ensures, next .after-change .ensures, d))
+change-at-requires : tie.Need-change-at-requires
+change-at-requires c κs =
+    let p = c .before in
+    let z = sym (p .place-code .ensures) ∙ c .if1 .taken in
+    (position-there (p .before .args .bus) (p .before .args .dev) z .2, z)
 
 returns-2 : tie.Need-returns-2
 unfolding stepReply stepRefusals
 returns-2 c =
-    let code = c .before .before in
-    let own = code .before in
-    let there = own .before in
-    let d = there .before .device-at .ensures in
-    let a = there .before .before .args in
-    turned-away _ _ _ _ _
-    (placed-code (a .bus) (a .dev) (λ x. changeRefusals x (a .change)) _ _ _ _ d (there .place-code .ensures) (own .change-code .ensures) (code .least .ensures))
-    (c .before .if1 .left)
-    (c .refused .ensures)
+    let p = c .before .before in
+    let a = p .before .args in
+    let e = p .place-code .ensures in
+    turned-away _ _ _ _ _ (e ∙ sym (position-first (a .bus) (a .dev) (changeRefusals (recordAt (a .bus) (a .dev)) (a .change)) (changes-above _ (a .change)) (λ z. c .before .if1 .left (e ∙ z)))) (c .before .if1 .left) (c .refused .ensures)
 
 pub change-spec : {M : Type 1} → statement M
-change-spec = tie.close (tie.spec (λ c κs. search needs) (λ c κs. search needs) (λ c κs. search needs) (λ c κs. search needs) after-change-requires (λ c κs. search needs) (λ c κs. search needs) (λ c κs. search needs) returns returns-2)
+change-spec = tie.close (tie.spec (λ c κs. search needs) change-at-requires (λ c κs. search needs) (λ c. search needs) returns-2)

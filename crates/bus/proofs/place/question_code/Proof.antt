@@ -2,8 +2,8 @@
 use mathlib.Core.Path.{ap, _∙_}
 use Rattle.refusals.specs.laws.Refusals.{refused-first, refused-more}
 use Rattle.bus.specs.Place.{questionRefusals}
-use Rattle.bus.specs.Units.{isTooLongFor}
-use Rattle.bus.specs.laws.Units.{bare-too-long}
+use Rattle.device.specs.Wait.{isTooLongFor}
+use Rattle.device.specs.laws.Wait.{bare-too-long}
 use borrow.Author.Needs.{needs}
 use Rattle.bus.proofs.place.question_code.Statement.{statement}
 use Rattle.bus.proofs.place.question_code.Tie as tie

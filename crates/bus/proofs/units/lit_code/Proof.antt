@@ -6,7 +6,8 @@ use Rattle.bus.specs.Devices.{deviceAt}
 use Rattle.refusals.specs.Refusals.{refuse}
 use Rattle.refusals.specs.laws.Refusals.{refused-more}
 use Rattle.bus.specs.Place.{placeRefusals, isMissing}
-use Rattle.bus.specs.Units.{isForeign, isTooLongFor}
+use Rattle.device.specs.Wait.{isTooLongFor}
+use Rattle.bus.specs.Units.{isForeign}
 use borrow.Author.Needs.{needs}
 use Rattle.bus.proofs.units.lit_code.Statement.{statement}
 use Rattle.bus.proofs.units.lit_code.Tie as tie

@@ -9,15 +9,12 @@ unfolding driverOutput
 returns c =
     let d = c .before .before .before in
     let b = d .before .before .before .before in
-    simp (c .driver-mode .ensures, c .before .is-blinking .ensures, d .in-effect4 .ensures, d .before .before .in-effect3 .ensures, b .in-effect2 .ensures, b .before .pair .ensures, b .before .before .in-effect .ensures, b .before .before .before .before .register-map .ensures)
+    simp (c .driver-mode .ensures, c .before .is-blinking .ensures, d .in-effect3 .ensures, d .before .before .in-effect2 .ensures, b .in-effect .ensures, b .before .ledout-of .ensures, b .before .before .register-map .ensures)
 
 pub driver-output-spec : {M : Type 1} → statement M
 driver-output-spec =
     tie.close
     (tie.spec
-    (λ c κs. search needs)
-    (λ c. search needs)
-    (λ c. search needs)
     (λ c κs. search needs)
     (λ c κs. search needs)
     (λ c. search needs)

@@ -6,10 +6,13 @@ use borrow.Author.Needs.{needs}
 use Rattle.lamp.proofs.driver.driver_count.Statement.{statement}
 use Rattle.lamp.proofs.driver.driver_count.Tie as tie
 
+grouped-requires : tie.Need-grouped-requires
+grouped-requires c κs = rw (c .dimming-group .ensures) (omega arith)
+
 grouped-requires-2 : tie.Need-grouped-requires-2
 grouped-requires-2 c κs =
-    let f = c .before .before .before .mode3 .given .0 in
-    omega (arith, blink-on-within (f .1 .1 .0) (f .1 .0) (omega arith))
+    let f = c .before .before .mode3 .given .0 in
+    rw (c .blink-group .ensures) (omega (arith, blink-on-within (f .1 .1 .0) (f .1 .0) (omega arith)))
 
 returns : tie.Need-returns
 unfolding driverLit
@@ -21,17 +24,15 @@ returns-2 c = rw (c .enum-told2 .given .1) (from-zero every (c .before .before .
 
 returns-3 : tie.Need-returns-3
 unfolding driverLit
-returns-3 c = rw (c .before .before .mode .given .1, c .duty .ensures) (from-zero (individual-counts (omega arith)) (c .before .before .before .before .args .x))
+returns-3 c = rw (c .before .before .mode .given .1, c .individual .ensures) (from-zero (individual-counts (omega arith)) (c .before .before .before .before .args .x))
 
 returns-4 : tie.Need-returns-4
 unfolding driverLit
-returns-4 c = rw (c .before .before .before .mode2 .given .1) (rw (c .before .dimming-on .ensures) at (c .grouped .ensures))
+returns-4 c = rw (c .before .before .before .mode2 .given .1) (rw (c .before .dimming-group .ensures) at (c .grouped .ensures))
 
 returns-5 : tie.Need-returns-5
 unfolding driverLit
-returns-5 c =
-    let b = c .before .before in
-    rw (b .before .before .mode3 .given .1) (rw (b .blink-period .ensures, c .before .blink-on .ensures) at (c .grouped2 .ensures))
+returns-5 c = rw (c .before .before .before .mode3 .given .1) (rw (c .before .blink-group .ensures) at (c .grouped2 .ensures))
 
 pub driver-count-spec : {M : Type 1} → statement M
 driver-count-spec =
@@ -40,13 +41,11 @@ driver-count-spec =
     (λ c. search needs)
     (λ c. search needs)
     (λ c. search needs)
-    (λ c. search needs)
     (λ c κs. search needs)
     (λ c. search needs)
     (λ c κs. search needs)
-    (λ c κs. search needs)
+    grouped-requires
     (λ c. search needs)
-    (λ c κs. search needs)
     (λ c κs. search needs)
     grouped-requires-2
     returns

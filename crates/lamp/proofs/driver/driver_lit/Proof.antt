@@ -1,8 +1,15 @@
 -- `lamp::driver::driver_lit` meets its contract.
+use native.Mathlib.Omega.{arith}
 use Rattle.lamp.specs.Driver.{individual, driverLit}
 use borrow.Author.Needs.{needs}
 use Rattle.lamp.proofs.driver.driver_lit.Statement.{statement}
 use Rattle.lamp.proofs.driver.driver_lit.Tie as tie
+
+grouped-requires : tie.Need-grouped-requires
+grouped-requires c κs = rw (c .dimming-group .ensures) (omega arith)
+
+grouped-requires-2 : tie.Need-grouped-requires-2
+grouped-requires-2 c κs = rw (c .blink-group .ensures) (omega arith)
 
 returns : tie.Need-returns
 unfolding driverLit
@@ -18,11 +25,11 @@ returns-3 c = rw (c .before .before .mode .given .1)
 
 returns-4 : tie.Need-returns-4
 unfolding driverLit
-returns-4 c = rw (c .before .before .before .mode2 .given .1) (rw (c .before .dimming-on .ensures) at (c .grouped .ensures))
+returns-4 c = rw (c .before .before .before .mode2 .given .1) (rw (c .before .dimming-group .ensures) at (c .grouped .ensures))
 
 returns-5 : tie.Need-returns-5
 unfolding driverLit
-returns-5 c = rw (c .before .before .before .before .mode3 .given .1) (rw (c .before .before .blink-period .ensures, c .before .blink-on .ensures) at (c .grouped2 .ensures))
+returns-5 c = rw (c .before .before .before .mode3 .given .1) (rw (c .before .blink-group .ensures) at (c .grouped2 .ensures))
 
 pub driver-lit-spec : {M : Type 1} → statement M
 driver-lit-spec =
@@ -34,11 +41,10 @@ driver-lit-spec =
     (λ c. search needs)
     (λ c. search needs)
     (λ c κs. search needs)
-    (λ c κs. search needs)
+    grouped-requires
     (λ c. search needs)
     (λ c κs. search needs)
-    (λ c κs. search needs)
-    (λ c κs. search needs)
+    grouped-requires-2
     returns
     returns-2
     returns-3

@@ -8,11 +8,11 @@ use Rattle.lamp.proofs.driver.grouped.Tie as tie
 
 returns : tie.Need-returns
 unfolding individual grouped
-returns c = simp (lt-ltb (c .before .args .at % 256) (c .before .args .pwm) (c .if1 .taken))
+returns c = let a = c .before .before .before .args in simp (lt-ltb (a .at % 256) (a .pwm) (c .before .before .if1 .taken))
 
 returns-2 : tie.Need-returns-2
 unfolding individual grouped
-returns-2 c = simp (le-ltb (c .before .args .at % 256) (c .before .args .pwm) (c .if1 .left))
+returns-2 c = let a = c .before .args in simp (le-ltb (a .at % 256) (a .pwm) (c .if1 .left))
 
 pub grouped-spec : {M : Type 1} → statement M
 grouped-spec = tie.close (tie.spec (λ c. search needs) returns returns-2)

@@ -1,19 +1,12 @@
 -- `lamp::window::within_limit` meets its contract: both tests of the limit agree, and no difference goes below 0.
-use mathlib.Core.Path.{_≡_, sym, _∙_}
-use Prim.Native.Nat.{ℕ, _+_, _-_, _≤_}
+use mathlib.Core.Path.{sym}
+use Prim.Native.Nat.{_+_}
 use native.Mathlib.Omega.{arith}
-use lib.Dec.{leb}
-use borrow.Author.Tests.{leb-true, leb-false, le-leb, lt-leb}
-use Rattle.basics.specs.laws.Logic.{tested, holds, fails}
+use borrow.Author.Tests.{lt-leb}
 use Rattle.lamp.specs.Window.{countLimit}
+use Rattle.lamp.specs.laws.Count.{moved}
 use Rattle.lamp.proofs.window.within_limit.Statement.{statement}
 use Rattle.lamp.proofs.window.within_limit.Tie as tie
-
-moved : (a m l : ℕ) → m ≤ l → leb a (l - m) ≡ leb (a + m) l
-moved a m l h = elim (tested (leb a (l - m))) [
-  | holds e ↦ e ∙ sym (le-leb (a + m) l (omega (arith, leb-true a (l - m) e)))
-  | fails e ↦ e ∙ sym (lt-leb (a + m) l (omega (arith, leb-false a (l - m) e)))
-]
 
 returns : tie.Need-returns
 returns c = let a = c .before .args in moved (a .at) (a .more) countLimit (c .if1 .taken)

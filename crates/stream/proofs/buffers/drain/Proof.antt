@@ -35,6 +35,13 @@ hand-over-requires c κs =
     let a = l .before .before .before in
     sends-batch (a .args .before) (now (a .args .text)) (l .loop .from) (l .loop .output) (l .loop .inv .0) (v .result) (v .ensures) (l .loop .out) _ _ (u .run .result) refl (u .run .ensures) (l .loop .place) (l .loop .inv .2) (a .pre .1)
 
+-- a run leaves the buffer as long as it was; said where it ends, since a place further on holds too much for a search
+run-long : (u : tie.After-run Inv-loop μ-loop) → length (u .run .last .1 .1 .0) ≡ length (now (u .before .before .before .before .before .before .before .before .args .out))
+run-long u = search needs
+
+same-length-2 : tie.Need-same-length-2 Inv-loop μ-loop
+same-length-2 c = run-long (c .before .before .before .before .before .before .before .before .before .before .before)
+
 returns-2 : tie.Need-returns-2 Inv-loop μ-loop
 returns-2 c =
     let h = c .before .before in
@@ -79,7 +86,7 @@ drain-spec =
     (λ c. search needs)
     hand-over-requires
     (λ c κs. search needs)
-    (λ c. search needs)
+    same-length-2
     returns-2
     (λ c. search needs)
     loop-again

@@ -1,0 +1,4 @@
+pub mod Totals
+pub mod Wait
+pub mod laws
+pub mod Promises
