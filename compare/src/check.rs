@@ -1,8 +1,9 @@
 //! Comparison of the twin with the model on generated logs: the linked
-//! library against the model, and the built program against the library.
+//! library against the model, for recorded logs by their totals too, and the
+//! built program against the library.
 
 use crate::sort::Sort;
-use crate::text;
+use crate::{replay, text, totals};
 use std::io::{self, Write};
 use std::process::{Command, Stdio};
 use std::thread;
@@ -17,13 +18,23 @@ const MAX_SHORTENING_RUNS: usize = 3000;
 #[derive(Debug, Clone, Copy, PartialEq, Eq)]
 pub enum Pair {
     ModelAndLibrary,
+    /// The totals at the end of a recorded log, by the model and the library.
+    Totals,
     LibraryAndProgram,
 }
 
 impl Pair {
+    /// Those that a sort of logs has.
+    fn of(sort: Sort) -> &'static [Pair] {
+        match sort {
+            Sort::Plain => &[Pair::ModelAndLibrary, Pair::LibraryAndProgram],
+            Sort::Stamped => &[Pair::ModelAndLibrary, Pair::Totals, Pair::LibraryAndProgram],
+        }
+    }
+
     pub fn names(self) -> (&'static str, &'static str) {
         match self {
-            Pair::ModelAndLibrary => ("model", "library"),
+            Pair::ModelAndLibrary | Pair::Totals => ("model", "library"),
             Pair::LibraryAndProgram => ("library", "program"),
         }
     }
@@ -33,6 +44,10 @@ impl Pair {
         let Twin { sort, program } = twin;
         Ok(match self {
             Pair::ModelAndLibrary => (sort.model(log), sort.library(log)),
+            Pair::Totals => (
+                totals::lines(&replay::totals(log)),
+                totals::lines(&lamptwin::totals(log)),
+            ),
             Pair::LibraryAndProgram => (sort.library(log), run_program(program, log)?),
         })
     }
@@ -53,6 +68,17 @@ pub struct Mismatch {
     pub log: Vec<u8>,
     pub expected: Vec<u8>,
     pub actual: Vec<u8>,
+}
+
+impl Mismatch {
+    /// The lines of the log up to the one whose answer differs, or all: the
+    /// totals are those at its end.
+    fn lines_needed(&self) -> usize {
+        match self.pair {
+            Pair::Totals => text::lines(&self.log).count(),
+            _ => first_difference(&self.expected, &self.actual),
+        }
+    }
 }
 
 /// What was compared, and the first mismatch.
@@ -86,7 +112,7 @@ pub fn compare(twin: Twin, first: u64, seeds: u64, lines: usize) -> io::Result<O
 }
 
 fn difference(twin: Twin, seed: u64, log: &[u8]) -> io::Result<Option<Mismatch>> {
-    for pair in [Pair::ModelAndLibrary, Pair::LibraryAndProgram] {
+    for &pair in Pair::of(twin.sort) {
         let (expected, actual) = pair.answers(twin, log)?;
         if expected != actual {
             return Ok(Some(Mismatch {
@@ -136,8 +162,7 @@ pub fn line_text(bytes: &[u8], number: usize) -> String {
 /// The shortest log found to which the two answers still differ.
 pub fn shorten_for(twin: Twin, mismatch: &Mismatch) -> Vec<u8> {
     let mut runs = 0;
-    let first = first_difference(&mismatch.expected, &mismatch.actual);
-    shorten(&mismatch.log, first, |log| {
+    shorten(&mismatch.log, mismatch.lines_needed(), |log| {
         runs += 1;
         let answers = mismatch.pair.answers(twin, log);
         runs <= MAX_SHORTENING_RUNS && answers.is_ok_and(|(expected, actual)| expected != actual)

@@ -5,7 +5,10 @@
 //! exist, what message is open and which register is pointed to, and plans
 //! its next lines accordingly.
 
+#[cfg(test)]
+mod situations;
 mod stamps;
+mod wear;
 
 use crate::model::{
     Blinker, Chip, Driver, Event, Message, Phase, INPUT, MAX_COUNT, MAX_DEVICES, MODE1, MODE2,
@@ -73,6 +76,9 @@ enum Step {
     Data,
     /// A wait of the device at a position.
     Wait(usize),
+    /// A wait of the device at a position that is as long as can be, or a
+    /// reset that makes room for one.
+    Wear(usize),
     /// A wait that leaves the device at a position less time to its limit
     /// than one line's stamp can let pass.
     WaitNearLimit(usize),
@@ -88,6 +94,8 @@ struct Generator {
     /// The bus after all finished lines, and the stamp if there are stamps.
     replay: Replay,
     stamped: bool,
+    /// Whether devices are to come to the limit of their totals.
+    wearing: bool,
     /// The time that the next line lets pass; 0 without stamps.
     pause: u64,
     plan: VecDeque<Step>,
@@ -145,6 +153,7 @@ impl Generator {
             damage,
             replay: Replay::default(),
             stamped,
+            wearing: wear::wears(seed),
             pause: 0,
             plan: VecDeque::new(),
             output: Vec::new(),
@@ -210,7 +219,9 @@ impl Generator {
 
     fn next_step(&mut self) -> Step {
         while self.plan.is_empty() {
-            if !self.stamped || !self.plan_for_limit() {
+            if self.wearing && self.random.chance(70) {
+                self.plan_wear();
+            } else if !self.stamped || !self.plan_for_limit() {
                 self.plan_something();
             }
         }
@@ -280,9 +291,10 @@ impl Generator {
                 device: position as u64,
                 ticks: self.wait_ticks(position),
             },
+            Step::Wear(position) => self.wear(position),
             Step::WaitNearLimit(position) => Event::Wait {
                 device: position as u64,
-                ticks: self.room(position).saturating_sub(self.any_size(32)),
+                ticks: self.wait_room(position).saturating_sub(self.any_size(32)),
             },
             Step::Question(position) => {
                 let outputs = self.replay.bus.devices[position].chip.outputs();
@@ -425,7 +437,8 @@ impl Generator {
         }
     }
 
-    /// Ticks left until the limit, or any number asleep.
+    /// Ticks left until the limit of the count, or as many as a window may
+    /// have asleep.
     fn room(&self, position: usize) -> u64 {
         if self.replay.bus.devices[position].chip.awake() {
             MAX_COUNT - self.count(position)
@@ -435,7 +448,7 @@ impl Generator {
     }
 
     fn wait_ticks(&mut self, position: usize) -> u64 {
-        let room = self.room(position);
+        let room = self.wait_room(position);
         let ticks = match self.random.below(40) {
             0..=11 => self.random.below(600),
             12..=27 => self.ticks_to_edge(position),
@@ -1121,7 +1134,7 @@ impl Generator {
         let device = position as u64;
         let missing = self.past(self.replay.bus.devices.len() as u64);
         let missing_output = self.past(self.replay.bus.devices[position].chip.outputs());
-        let too_many = self.past(self.room(position) + 1);
+        let too_many = self.past(self.wait_room(position) + 1);
         match self.random.below(8) {
             0 => Event::Wait {
                 device,

@@ -8,3 +8,5 @@ pub mod replay;
 pub mod sort;
 pub mod text;
 pub mod timing;
+pub mod totals;
+pub mod wait;

@@ -1,17 +1,9 @@
-//! How long lit counts take, in each mode of each kind of chip: the same
-//! questions to the model, to the linked library and to the built program.
-//!
-//! A question is a line of a log, so a log is timed with its questions and
-//! without them; the difference is the questions' time.
+//! Logs that show how long lit counts take, in each mode of each kind of chip.
 
-use crate::check::run_program;
 use crate::generate::Random;
 use crate::model::{Event, MAX_DEVICES};
-use crate::text;
-use crate::timing::{elapsed, median};
+use crate::timing::{lines_of, write_message, Log};
 use std::fmt;
-use std::io;
-use std::time::Duration;
 
 /// Questions in a log.
 pub const COUNTS: usize = 1000;
@@ -78,15 +70,9 @@ pub fn settings() -> Vec<(u64, Mode)> {
         .collect()
 }
 
-/// A log, and the same without its questions.
-pub struct Log {
-    pub whole: Vec<u8>,
-    pub rest: Vec<u8>,
-}
-
 /// Eight devices of a kind, each with registers and a start of its own, all
-/// in one mode; then rounds of questions about every output, with waits
-/// between the rounds.
+/// in one mode; then rounds of questions about every output, which are timed,
+/// with waits between the rounds.
 pub fn log(chip: u64, mode: Mode, window: u64) -> Log {
     let mut random = Random::new(chip);
     let mut events = Vec::new();
@@ -100,25 +86,8 @@ pub fn log(chip: u64, mode: Mode, window: u64) -> Log {
     let is_question = |event: &Event| matches!(event, Event::Lit { .. });
     Log {
         rest: lines_of(events.iter().filter(|event| !is_question(event))),
-        whole: lines_of(events.iter()),
+        whole: lines_of(&events),
     }
-}
-
-fn lines_of<'a>(events: impl Iterator<Item = &'a Event>) -> Vec<u8> {
-    let lines: Vec<String> = events
-        .map(|&event| text::format_event(event) + "\n")
-        .collect();
-    lines.concat().into_bytes()
-}
-
-/// A message to a 7-bit address, from START to STOP.
-fn write_message(events: &mut Vec<Event>, address: u64, bytes: &[u8]) {
-    events.push(Event::Start);
-    events.push(Event::Put { byte: 2 * address });
-    for &byte in bytes {
-        events.push(Event::Put { byte: byte.into() });
-    }
-    events.push(Event::Stop);
 }
 
 /// A brightness that is neither 0 nor 256.
@@ -222,67 +191,10 @@ fn ask_in_rounds(events: &mut Vec<Event>, random: &mut Random, chip: u64, window
     }
 }
 
-/// The median time of a whole log, and of the rest of it.
-pub struct Time {
-    pub whole: Duration,
-    pub rest: Duration,
-}
-
-impl Time {
-    /// The time of the questions.
-    pub fn counts(&self) -> Duration {
-        self.whole.saturating_sub(self.rest)
-    }
-
-    pub fn nanoseconds_a_count(&self) -> f64 {
-        self.counts().as_nanos() as f64 / COUNTS as f64
-    }
-
-    /// The time of the questions over another's.
-    pub fn ratio(&self, other: &Time) -> f64 {
-        self.counts().as_secs_f64() / other.counts().as_secs_f64()
-    }
-}
-
-pub struct Times {
-    pub model: Time,
-    pub library: Time,
-    pub program: Time,
-}
-
-/// Runs all three in turn, `runs` times each, on the whole log and on the
-/// rest, after one run that is not timed and whose answers are compared.
-pub fn time(program: &str, log: &Log, runs: usize) -> io::Result<Times> {
-    let model = |log: &[u8]| text::run(log);
-    let library = |log: &[u8]| lamptwin::run(log);
-    let built = |log: &[u8]| run_program(program, log);
-    for part in [&log.whole, &log.rest] {
-        let answers = model(part);
-        if answers != library(part) || answers != built(part)? {
-            return Err(io::Error::other("the answers differ"));
-        }
-    }
-    let mut times: [Vec<Duration>; 6] = Default::default();
-    for _ in 0..runs {
-        times[0].push(elapsed(|| model(&log.whole)));
-        times[1].push(elapsed(|| library(&log.whole)));
-        times[2].push(elapsed(|| built(&log.whole)));
-        times[3].push(elapsed(|| model(&log.rest)));
-        times[4].push(elapsed(|| library(&log.rest)));
-        times[5].push(elapsed(|| built(&log.rest)));
-    }
-    let [a, b, c, d, e, f] = times.map(median);
-    let of = |whole, rest| Time { whole, rest };
-    Ok(Times {
-        model: of(a, d),
-        library: of(b, e),
-        program: of(c, f),
-    })
-}
-
 #[cfg(test)]
 mod tests {
     use super::*;
+    use crate::text;
 
     /// The value of each answer, all of which must be accepted.
     fn values(log: &[u8]) -> Vec<u64> {
@@ -325,8 +237,7 @@ mod tests {
     #[test]
     fn the_rest_has_no_question() {
         let log = log(9634, Mode::Dimming, 10);
-        let lines = |log: &[u8]| text::lines(log).count();
-        assert_eq!(lines(&log.whole), lines(&log.rest) + COUNTS);
+        assert_eq!(log.lines(), COUNTS);
         assert!(text::lines(&log.rest).all(|line| !line.starts_with(b"ev=lit ")));
     }
 }

@@ -1,11 +1,13 @@
 //! `compare model` answers a log, `compare generate` writes one, `compare
-//! check` compares the twin with the model, `compare time` times both, and
-//! `compare lit` times their lit counts. `compare replay` is `compare check`
-//! for recorded logs, whose lines bear stamps.
+//! check` compares the twin with the model, `compare time` times both, `compare
+//! lit` times their lit counts, and `compare wait` their waits and puts.
+//! `compare replay` is `compare check` for recorded logs, whose lines bear
+//! stamps.
 
 use compare::check::Twin;
 use compare::sort::Sort;
-use compare::{check, lit, text, timing};
+use compare::timing::{LineTime, LineTimes};
+use compare::{check, lit, text, timing, wait};
 use std::env;
 use std::io::{self, Read, Write};
 use std::process::ExitCode;
@@ -16,7 +18,8 @@ const USAGE: &str = "usage: compare model [replay]
        compare check PROGRAM FIRST_SEED SEEDS LINES
        compare replay PROGRAM FIRST_SEED SEEDS LINES
        compare time LINES RUNS
-       compare lit PROGRAM RUNS";
+       compare lit PROGRAM RUNS
+       compare wait PROGRAM RUNS";
 
 fn main() -> ExitCode {
     let arguments: Vec<String> = env::args().skip(1).collect();
@@ -56,6 +59,10 @@ fn run(arguments: &[&str]) -> Option<io::Result<ExitCode>> {
         ["lit", program, ref numbers @ ..] => match numbers_of(numbers)? {
             [0] => return None,
             [runs] => time_counts(program, runs as usize),
+        },
+        ["wait", program, ref numbers @ ..] => match numbers_of(numbers)? {
+            [0] => return None,
+            [runs] => time_waits(program, runs as usize),
         },
         _ => return None,
     })
@@ -111,8 +118,12 @@ fn print_mismatch(twin: Twin, mismatch: &check::Mismatch) {
 fn print_difference(pair: check::Pair, log: &[u8], expected: &[u8], actual: &[u8]) {
     let number = check::first_difference(expected, actual);
     let (one, other) = pair.names();
-    println!("first difference at line {number}:");
-    println!("  event:   {}", check::line_text(log, number));
+    if pair == check::Pair::Totals {
+        println!("first difference of the totals at the end:");
+    } else {
+        println!("first difference at line {number}:");
+        println!("  event:   {}", check::line_text(log, number));
+    }
     println!("  {one}: {}", check::line_text(expected, number));
     println!("  {other}: {}", check::line_text(actual, number));
 }
@@ -142,8 +153,8 @@ fn time_counts(program: &str, runs: usize) -> io::Result<ExitCode> {
         println!("the time of all, the time of one, and over the model's");
         let mut total = [Duration::ZERO; 3];
         for (chip, mode) in lit::settings() {
-            let times = lit::time(program, &lit::log(chip, mode, window), runs)?;
-            print_counts(chip, mode, &times);
+            let times = timing::time_lines(program, &lit::log(chip, mode, window), runs)?;
+            print_times(&format!("{chip} {:<13}", mode.to_string()), &times);
             let whole = [&times.model, &times.library, &times.program].map(|time| time.whole);
             for (sum, time) in total.iter_mut().zip(whole) {
                 *sum += time;
@@ -155,15 +166,27 @@ fn time_counts(program: &str, runs: usize) -> io::Result<ExitCode> {
     Ok(ExitCode::SUCCESS)
 }
 
-fn print_counts(chip: u64, mode: lit::Mode, times: &lit::Times) {
-    let columns = |time: &lit::Time| {
-        let milliseconds = time.counts().as_secs_f64() * 1e3;
-        let nanoseconds = time.nanoseconds_a_count();
+fn time_waits(program: &str, runs: usize) -> io::Result<ExitCode> {
+    println!("{} lines each, of one PCA9635 on the bus:", wait::LINES);
+    println!("the time of all, the time of one, and over the model's");
+    for boards in wait::BOARDS {
+        for subject in wait::SUBJECTS {
+            let times = timing::time_lines(program, &wait::log(subject, boards), runs)?;
+            let label = format!("boards {boards}: {:<16}", subject.to_string());
+            print_times(&label, &times);
+        }
+    }
+    Ok(ExitCode::SUCCESS)
+}
+
+fn print_times(label: &str, times: &LineTimes) {
+    let columns = |time: &LineTime| {
+        let milliseconds = time.all().as_secs_f64() * 1e3;
+        let nanoseconds = time.nanoseconds_a_line();
         format!("{milliseconds:.3} ms {nanoseconds:4.0} ns")
     };
     println!(
-        "{chip} {:<13} model {}  library {} {:.2}  program {} {:.2}",
-        mode.to_string(),
+        "{label} model {}  library {} {:.2}  program {} {:.2}",
         columns(&times.model),
         columns(&times.library),
         times.library.ratio(&times.model),

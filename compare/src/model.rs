@@ -5,10 +5,15 @@
 
 /// Most devices on a bus.
 pub const MAX_DEVICES: usize = 8;
-/// Greatest tick or step count of a device, and greatest window of `lit`.
+/// Most outputs of a device.
+pub const MAX_OUTPUTS: usize = 16;
+/// Greatest tick or step count of a device, and greatest wait and window of
+/// `lit`.
 pub const MAX_COUNT: u64 = 1 << 48;
+/// Most ticks or steps of an output's two totals together.
+pub const MAX_TOTAL: u64 = 1 << 56;
 
-/// Windows up to this length are counted tick by tick.
+/// Windows of `lit` up to this length are counted tick by tick.
 const SHORT_WINDOW: u64 = 4096;
 
 /// Refusal numbers.
@@ -94,6 +99,16 @@ pub enum Phase {
 pub struct Device {
     pub phase: Phase,
     pub chip: Chip,
+    /// By output; those past the chip's outputs stay 0.
+    pub totals: [Totals; MAX_OUTPUTS],
+}
+
+/// "The lit ticks (or steps) and, summed on their own, the unlit ones" of an
+/// output, over all accepted waits since its device was added.
+#[derive(Clone, Copy, Debug, Default, PartialEq, Eq)]
+pub struct Totals {
+    pub lit: u64,
+    pub unlit: u64,
 }
 
 #[derive(Clone, Debug)]
@@ -145,11 +160,11 @@ impl Bus {
     /// are judged together. A refused event takes its time back.
     pub fn apply_after(&mut self, ticks: u64, event: Event) -> (u64, u64) {
         if self.time_would_pass_limit(ticks) {
-            // The numbers below the limit's do not depend on the counts.
+            // The numbers below the limit's depend on no count and no total.
             let own = self.clone().answer(event).err();
             return (COUNT_LIMIT.min(own.unwrap_or(COUNT_LIMIT)), 0);
         }
-        self.drivers().for_each(|driver| driver.pass(ticks));
+        self.drivers().for_each(|driver| driver.wait(ticks));
         let answer = self.apply(event);
         if answer.0 != 0 {
             self.drivers().for_each(|driver| driver.take_back(ticks));
@@ -157,22 +172,20 @@ impl Bus {
         answer
     }
 
-    /// "6 if any driver's count would pass its limit."
+    /// "6 if any driver's count would pass its limit", and as for a wait "in
+    /// replay too".
     pub fn time_would_pass_limit(&self, ticks: u64) -> bool {
         self.devices
             .iter()
-            .any(|device| device.chip.is_driver() && device.chip.would_pass_limit(ticks))
+            .any(|device| device.chip.is_driver() && device.wait_would_pass_limit(ticks))
     }
 
     /// "That time goes to every driver"; "blinkers move only by their own wait
     /// lines".
-    fn drivers(&mut self) -> impl Iterator<Item = &mut Driver> {
+    fn drivers(&mut self) -> impl Iterator<Item = &mut Device> {
         self.devices
             .iter_mut()
-            .filter_map(|device| match &mut device.chip {
-                Chip::Driver(driver) => Some(driver),
-                Chip::Blinker(_) => None,
-            })
+            .filter(|device| device.chip.is_driver())
     }
 
     fn answer(&mut self, event: Event) -> Answer {
@@ -209,10 +222,7 @@ impl Bus {
             (NO_DEVICE, self.devices.len() >= MAX_DEVICES),
             (OUT_OF_TURN, self.message != Message::Idle),
         ])?;
-        self.devices.push(Device {
-            phase: Phase::Deaf,
-            chip: fresh,
-        });
+        self.devices.push(Device::with(fresh));
         Ok(self.devices.len() as u64 - 1)
     }
 
@@ -285,9 +295,9 @@ impl Bus {
     }
 
     fn wait(&mut self, position: u64, ticks: u64) -> Answer {
-        let chip = &mut self.device(position)?.chip;
-        refuse_if(&[(COUNT_LIMIT, chip.would_pass_limit(ticks))])?;
-        chip.advance(ticks);
+        let device = self.device(position)?;
+        refuse_if(&[(COUNT_LIMIT, device.wait_would_pass_limit(ticks))])?;
+        device.wait(ticks);
         Ok(0)
     }
 
@@ -311,7 +321,8 @@ impl Bus {
         Ok(0)
     }
 
-    /// "Deselects the device until the next START."
+    /// "Deselects the device until the next START"; of its totals "reset
+    /// clears neither".
     fn reset(&mut self, position: u64) -> Answer {
         let device = self.device(position)?;
         device.chip.reset();
@@ -322,10 +333,7 @@ impl Bus {
     fn lit(&mut self, position: u64, output: u64, ticks: u64) -> Answer {
         let chip = &self.device(position)?.chip;
         refuse_if(&[
-            (
-                COUNT_LIMIT,
-                ticks > MAX_COUNT || chip.would_pass_limit(ticks),
-            ),
+            (COUNT_LIMIT, chip.would_pass_limit(ticks)),
             (NO_OUTPUT, output >= chip.outputs()),
         ])?;
         Ok(chip.lit_ticks(output as usize, ticks))
@@ -338,7 +346,54 @@ impl Bus {
     }
 }
 
+impl Totals {
+    /// "Lit plus unlit time equals the time waited."
+    pub fn waited(&self) -> u64 {
+        self.lit + self.unlit
+    }
+}
+
 impl Device {
+    /// As it is when it has just been added.
+    fn with(chip: Chip) -> Device {
+        Device {
+            phase: Phase::Deaf,
+            chip,
+            totals: Default::default(),
+        }
+    }
+
+    /// "When a wait is above 2^48, asleep or not, or would bring an output's
+    /// two totals together above 2^56", or where the count would pass its
+    /// limit.
+    pub fn wait_would_pass_limit(&self, ticks: u64) -> bool {
+        let outputs = self.chip.outputs() as usize;
+        let total_passes = |totals: &Totals| ticks > MAX_TOTAL - totals.waited();
+        self.chip.would_pass_limit(ticks) || self.totals[..outputs].iter().any(total_passes)
+    }
+
+    /// Adds to each output's totals "what a lit question just before would
+    /// have answered", and what is left of the wait. It is counted by periods,
+    /// so that a short wait takes no longer than a long one.
+    fn wait(&mut self, ticks: u64) {
+        for output in 0..self.chip.outputs() as usize {
+            let lit = self.chip.lit_ticks_by_periods(output, ticks);
+            self.totals[output].lit += lit;
+            self.totals[output].unlit += ticks - lit;
+        }
+        self.chip.advance(ticks);
+    }
+
+    /// Undoes `wait`, where nothing has happened since.
+    fn take_back(&mut self, ticks: u64) {
+        self.chip.go_back(ticks);
+        for output in 0..self.chip.outputs() as usize {
+            let lit = self.chip.lit_ticks_by_periods(output, ticks);
+            self.totals[output].lit -= lit;
+            self.totals[output].unlit -= ticks - lit;
+        }
+    }
+
     /// The byte after START; gives the acknowledge.
     fn take_address(&mut self, byte: u8) -> bool {
         self.phase = match byte {
@@ -485,14 +540,24 @@ impl Chip {
         }
     }
 
+    /// Where a wait or a window is too long for the device's count, or for any
+    /// count.
     fn would_pass_limit(&self, ticks: u64) -> bool {
-        self.awake() && ticks > MAX_COUNT - self.count()
+        ticks > MAX_COUNT || self.awake() && ticks > MAX_COUNT - self.count()
     }
 
     fn advance(&mut self, ticks: u64) {
         match self {
-            Chip::Driver(driver) => driver.pass(ticks),
+            Chip::Driver(driver) => driver.advance(ticks),
             Chip::Blinker(blinker) => blinker.steps += ticks,
+        }
+    }
+
+    /// Undoes `advance`.
+    fn go_back(&mut self, ticks: u64) {
+        match self {
+            Chip::Driver(driver) => driver.go_back(ticks),
+            Chip::Blinker(blinker) => blinker.steps -= ticks,
         }
     }
 
@@ -519,26 +584,29 @@ impl Chip {
         }
     }
 
-    /// Lit ticks of the window of w ticks from now on.
+    /// Lit ticks of the window of w ticks from now on, as a question has them.
     fn lit_ticks(&self, output: usize, w: u64) -> u64 {
-        let t = self.count();
-        if !self.awake() {
-            w * self.is_lit(output, t) as u64
-        } else if w <= SHORT_WINDOW {
+        if self.awake() && w <= SHORT_WINDOW {
             self.lit_ticks_by_loop(output, w)
         } else {
             self.lit_ticks_by_periods(output, w)
         }
     }
 
+    /// Of an awake device.
     fn lit_ticks_by_loop(&self, output: usize, w: u64) -> u64 {
         let t = self.count();
         (t..t + w).filter(|&tick| self.is_lit(output, tick)).count() as u64
     }
 
+    /// "Asleep: w times the present state."
     fn lit_ticks_by_periods(&self, output: usize, w: u64) -> u64 {
         let t = self.count();
-        self.lit_below(output, t + w) - self.lit_below(output, t)
+        if self.awake() {
+            self.lit_below(output, t + w) - self.lit_below(output, t)
+        } else {
+            w * self.is_lit(output, t) as u64
+        }
     }
 
     fn pin(&self, output: usize) -> u64 {
@@ -673,14 +741,14 @@ impl Driver {
     }
 
     /// "Asleep, t stands still."
-    fn pass(&mut self, ticks: u64) {
+    fn advance(&mut self, ticks: u64) {
         if self.awake() {
             self.ticks += ticks;
         }
     }
 
-    /// Undoes `pass`, where nothing has happened since.
-    fn take_back(&mut self, ticks: u64) {
+    /// Undoes `advance`, where nothing has happened since.
+    fn go_back(&mut self, ticks: u64) {
         if self.awake() {
             self.ticks -= ticks;
         }
@@ -1015,7 +1083,9 @@ impl Blinker {
 #[cfg(test)]
 mod tests {
     use super::*;
-    use crate::generate::Random;
+    use crate::check::damage_share;
+    use crate::generate::{self, Random};
+    use crate::text;
 
     const DRIVERS: [&Layout; 2] = [&PCA9635, &PCA9634];
 
@@ -1062,10 +1132,7 @@ mod tests {
     /// Code and value of `lit` for a driver alone on a bus, standing at t.
     fn answer_to_lit(driver: &Driver, t: u64, output: u64, w: u64) -> (u64, u64) {
         let mut bus = Bus::new();
-        bus.devices.push(Device {
-            phase: Phase::Deaf,
-            chip: Chip::Driver(driver.clone()),
-        });
+        bus.devices.push(Device::with(Chip::Driver(driver.clone())));
         set_count(&mut bus.devices[0].chip, t);
         bus.apply(Event::Lit {
             device: 0,
@@ -1364,6 +1431,220 @@ mod tests {
         assert_eq!(write(&mut bus, &[0x50, 0x00, 0x01]), [0; 3]);
         assert_eq!(write(&mut bus, &[0x07]), [0]);
         assert_eq!(write(&mut Bus::new(), &[0x06, 0xA5]), [0; 2]);
+    }
+
+    /// START, the bytes, STOP.
+    fn write_message(bus: &mut Bus, bytes: &[u64]) {
+        write(bus, bytes);
+        bus.apply(Event::Stop);
+    }
+
+    /// The code of a wait.
+    fn wait(bus: &mut Bus, device: u64, ticks: u64) -> u64 {
+        bus.apply(Event::Wait { device, ticks }).0
+    }
+
+    /// A 9635 at address 21, awake, with output 0 on and output 1 at brightness
+    /// 64.
+    fn bus_with_lamps() -> Bus {
+        let mut bus = bus_of(&[(9635, 21)]);
+        write_message(&mut bus, &[42, 0x00, 0x01]);
+        write_message(&mut bus, &[42, 0x03, 64]);
+        write_message(&mut bus, &[42, 0x14, 0b1001]);
+        bus
+    }
+
+    /// Outputs 0, 1 and 2 of the device at position 0, lit and unlit.
+    fn first_totals(bus: &Bus) -> [(u64, u64); 3] {
+        [0, 1, 2].map(|output| {
+            let totals = bus.devices[0].totals[output];
+            (totals.lit, totals.unlit)
+        })
+    }
+
+    #[test]
+    fn a_fresh_device_has_no_totals() {
+        let bus = bus_of(&DRIVERS_AMONG_BLINKERS);
+        for device in bus.devices {
+            assert_eq!(device.totals, [Totals::default(); MAX_OUTPUTS]);
+        }
+    }
+
+    #[test]
+    fn waits_are_summed_lit_and_unlit() {
+        let mut bus = bus_with_lamps();
+        wait(&mut bus, 0, 100);
+        assert_eq!(first_totals(&bus), [(100, 0), (64, 36), (0, 100)]);
+        wait(&mut bus, 0, 200);
+        assert_eq!(first_totals(&bus), [(300, 0), (108, 192), (0, 300)]);
+    }
+
+    /// "An asleep lamp held lit burns too."
+    #[test]
+    fn asleep_a_lit_lamp_burns() {
+        let mut bus = bus_with_lamps();
+        wait(&mut bus, 0, 63);
+        write_message(&mut bus, &[42, 0x00, 0x11]);
+        wait(&mut bus, 0, 1000);
+        assert_eq!(first_totals(&bus), [(1063, 0), (1063, 0), (0, 1063)]);
+        write_message(&mut bus, &[42, 0x00, 0x01]);
+        wait(&mut bus, 0, 64);
+        write_message(&mut bus, &[42, 0x00, 0x11]);
+        wait(&mut bus, 0, 1000);
+        assert_eq!(first_totals(&bus), [(2127, 0), (1127, 1000), (0, 2127)]);
+    }
+
+    /// "Reset clears neither", and no more do the reset call, sleeping and
+    /// waking.
+    #[test]
+    fn nothing_clears_totals() {
+        let mut bus = bus_with_lamps();
+        wait(&mut bus, 0, 100);
+        let totals = first_totals(&bus);
+        write_message(&mut bus, &[42, 0x00, 0x11]);
+        assert_eq!(first_totals(&bus), totals);
+        write_message(&mut bus, &[42, 0x00, 0x01]);
+        assert_eq!(first_totals(&bus), totals);
+        write_message(&mut bus, &[0x06, 0xA5, 0x5A]);
+        assert!(!bus.devices[0].chip.awake());
+        assert_eq!(first_totals(&bus), totals);
+        bus.apply(Event::Reset { device: 0 });
+        assert_eq!(first_totals(&bus), totals);
+        wait(&mut bus, 0, 10);
+        assert_eq!(first_totals(&bus), [(100, 10), (64, 46), (0, 110)]);
+    }
+
+    #[test]
+    fn a_refused_wait_adds_nothing() {
+        let mut bus = bus_with_lamps();
+        wait(&mut bus, 0, 100);
+        assert_eq!(wait(&mut bus, 0, MAX_COUNT - 99), COUNT_LIMIT);
+        assert_eq!(wait(&mut bus, 1, 1), NO_DEVICE);
+        assert_eq!(first_totals(&bus), [(100, 0), (64, 36), (0, 100)]);
+    }
+
+    /// "When a wait is above 2^48, asleep or not."
+    #[test]
+    fn a_wait_has_at_most_2_48_ticks() {
+        let mut bus = bus_of(&[(9634, 21)]);
+        assert_eq!(wait(&mut bus, 0, MAX_COUNT), 0);
+        assert_eq!(wait(&mut bus, 0, MAX_COUNT + 1), COUNT_LIMIT);
+        assert_eq!(first_totals(&bus), [(0, MAX_COUNT); 3]);
+        write_message(&mut bus, &[42, 0x00, 0x01]);
+        assert_eq!(wait(&mut bus, 0, MAX_COUNT + 1), COUNT_LIMIT);
+        assert_eq!(wait(&mut bus, 0, MAX_COUNT), 0);
+        assert_eq!(wait(&mut bus, 0, 1), COUNT_LIMIT);
+    }
+
+    /// "Or would bring an output's two totals together above 2^56"; a question
+    /// is not refused for it, and no reset makes room.
+    #[test]
+    fn totals_reach_2_56_and_no_more() {
+        let mut bus = bus_with_lamps();
+        write_message(&mut bus, &[42, 0x00, 0x11]);
+        for _ in 0..256 {
+            assert_eq!(wait(&mut bus, 0, MAX_COUNT), 0);
+        }
+        let full = [(MAX_TOTAL, 0), (MAX_TOTAL, 0), (0, MAX_TOTAL)];
+        assert_eq!(wait(&mut bus, 0, 1), COUNT_LIMIT);
+        assert_eq!(wait(&mut bus, 0, 0), 0);
+        assert_eq!(first_totals(&bus), full);
+        let question = Event::Lit {
+            device: 0,
+            output: 0,
+            ticks: MAX_COUNT,
+        };
+        assert_eq!(bus.apply(question), (0, MAX_COUNT));
+        bus.apply(Event::Reset { device: 0 });
+        assert_eq!(wait(&mut bus, 0, 1), COUNT_LIMIT);
+        assert_eq!(bus.apply_after(1, Event::Start), (COUNT_LIMIT, 0));
+        assert_eq!(bus.apply_after(0, Event::Start), (0, 0));
+        assert_eq!(first_totals(&bus), full);
+    }
+
+    /// A driver's time leaves a blinker's totals alone, and is no bar to them.
+    #[test]
+    fn a_blinker_sums_its_own_steps() {
+        let mut bus = bus_of(&[(9531, 0), (9635, 21)]);
+        write_message(&mut bus, &[192, 0x05, 0b1001]);
+        bus.apply_after(1000, Event::Start);
+        assert_eq!(first_totals(&bus), [(0, 0); 3]);
+        assert_eq!(
+            bus.devices[1].totals,
+            [Totals {
+                lit: 0,
+                unlit: 1000
+            }; 16]
+        );
+        wait(&mut bus, 0, 300);
+        assert_eq!(first_totals(&bus), [(300, 0), (172, 128), (0, 300)]);
+        assert_eq!(bus.devices[0].totals[8..], [Totals::default(); 8]);
+        assert_eq!(bus.devices[1].totals[15].waited(), 1000);
+    }
+
+    /// The time of a line and its own wait are judged one after the other; a
+    /// refused line takes its time back.
+    #[test]
+    fn a_wait_is_judged_with_the_totals_after_the_time() {
+        let mut bus = bus_with_lamps();
+        write_message(&mut bus, &[42, 0x00, 0x11]);
+        for _ in 0..255 {
+            wait(&mut bus, 0, MAX_COUNT);
+        }
+        wait(&mut bus, 0, MAX_COUNT - 10);
+        let before = first_totals(&bus);
+        let own = |ticks| Event::Wait { device: 0, ticks };
+        assert_eq!(bus.apply_after(4, own(7)), (COUNT_LIMIT, 0));
+        assert_eq!(bus.apply_after(11, own(0)), (COUNT_LIMIT, 0));
+        assert_eq!(first_totals(&bus), before);
+        assert_eq!(bus.apply_after(4, own(6)), (0, 0));
+        assert_eq!(bus.devices[0].totals[0].waited(), MAX_TOTAL);
+    }
+
+    /// What each output's totals must be: for each accepted wait, "what a lit
+    /// question just before would have answered", and the rest of the wait.
+    #[derive(Default)]
+    struct History([[Totals; MAX_OUTPUTS]; MAX_DEVICES]);
+
+    impl History {
+        fn add(&mut self, before: &mut Bus, device: u64, ticks: u64) {
+            let position = device as usize;
+            for output in 0..before.devices[position].chip.outputs() {
+                let (code, lit) = before.apply(Event::Lit {
+                    device,
+                    output,
+                    ticks,
+                });
+                assert_eq!(code, 0);
+                let totals = &mut self.0[position][output as usize];
+                totals.lit += lit;
+                totals.unlit += ticks - lit;
+            }
+        }
+    }
+
+    /// "The lit total must equal the sum over the history, wait by wait"; and
+    /// every output of a device has the same time waited.
+    #[test]
+    fn totals_are_the_sums_over_the_history() {
+        for seed in 1..60 {
+            let mut bus = Bus::new();
+            let mut history = History::default();
+            let log = generate::log(seed, 1000, damage_share(seed));
+            for line in text::lines(&log) {
+                let mut before = bus.clone();
+                let (code, _) = text::answer(&mut bus, line);
+                if let (0, Some(Event::Wait { device, ticks })) = (code, text::parse(line)) {
+                    history.add(&mut before, device, ticks);
+                }
+            }
+            for (device, totals) in bus.devices.iter().zip(history.0) {
+                assert_eq!(device.totals, totals, "seed {seed}");
+                let outputs = &totals[..device.chip.outputs() as usize];
+                let alike = |pair: &[Totals]| pair[0].waited() == pair[1].waited();
+                assert!(outputs.windows(2).all(alike), "seed {seed}");
+            }
+        }
     }
 
     #[test]

@@ -3,6 +3,7 @@
 
 use crate::model::{Bus, Event, BAD_LINE};
 use crate::text;
+use crate::totals::{self, Row};
 
 /// The bus, and the stamp of the last accepted line.
 #[derive(Clone, Debug, Default)]
@@ -16,6 +17,16 @@ pub struct Replay {
 pub fn run(input: &[u8]) -> Vec<u8> {
     let mut replay = Replay::default();
     text::answers(input, |line| replay.answer(line))
+}
+
+/// Replays all lines of the input from an empty bus and gives the totals at
+/// its end.
+pub fn totals(input: &[u8]) -> Row {
+    let mut replay = Replay::default();
+    for line in text::lines(input) {
+        replay.answer(line);
+    }
+    totals::row(&replay.bus)
 }
 
 /// "Elapsed time is later minus earlier around the roll-over."

@@ -1,6 +1,7 @@
 //! Worked cases: pairs of an input and the whole output asked for it.
 
 use compare::sort::Sort;
+use compare::{replay, totals};
 use std::fs;
 use std::path::{Path, PathBuf};
 
@@ -16,14 +17,14 @@ fn inputs(folder: &str) -> Vec<PathBuf> {
     paths
 }
 
-fn assert_answered(sort: Sort, folder: &str) {
+fn assert_answered(folder: &str, answer: impl Fn(&[u8]) -> Vec<u8>) {
     let inputs = inputs(folder);
     assert!(!inputs.is_empty());
     let mut failed = Vec::new();
     for path in inputs {
         let input = fs::read(&path).unwrap();
         let expected = fs::read(path.with_extension("out")).unwrap();
-        if sort.model(&input) != expected {
+        if answer(&input) != expected {
             failed.push(path);
         }
     }
@@ -32,10 +33,16 @@ fn assert_answered(sort: Sort, folder: &str) {
 
 #[test]
 fn all_cases_pass() {
-    assert_answered(Sort::Plain, "cases");
+    assert_answered("cases", |input| Sort::Plain.model(input));
 }
 
 #[test]
 fn all_replays_pass() {
-    assert_answered(Sort::Stamped, "replays");
+    assert_answered("replays", |input| Sort::Stamped.model(input));
+}
+
+/// A line for each output that has waited, at the end of a recorded log.
+#[test]
+fn all_totals_pass() {
+    assert_answered("totals", |input| totals::lines(&replay::totals(input)));
 }

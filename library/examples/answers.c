@@ -1,4 +1,6 @@
-/* Answers the log on standard input on standard output, as the program lamptwin does; a recorded log with the argument replay. */
+/* Answers the log on standard input on standard output, as the program lamptwin does; a recorded log with the argument replay. With
+ * the argument totals it gives those at the end of a recorded log instead, a line for each output that has waited. */
+#include <inttypes.h>
 #include <stdint.h>
 #include <stdio.h>
 #include <stdlib.h>
@@ -43,20 +45,47 @@ static struct bytes read_all(FILE *input)
     return all;
 }
 
-int main(int count, char **arguments)
+static void print_answers(struct bytes log, int replay)
 {
-    int replay = count == 2 && strcmp(arguments[1], "replay") == 0;
-    if (count > 1 && !replay) {
-        fprintf(stderr, "usage: %s [replay]\n", arguments[0]);
-        return EXIT_FAILURE;
-    }
-    struct bytes log = read_all(stdin);
     size_t room = lamptwin_lines(log.start, log.length) * LAMPTWIN_ANSWER_ROOM;
     uint8_t *answers = allocate(NULL, room);
     size_t length = (replay ? lamptwin_replay : lamptwin_run)(log.start, log.length, answers, room);
-    if (fwrite(answers, 1, length, stdout) != length || fflush(stdout) != 0)
+    if (fwrite(answers, 1, length, stdout) != length)
         fail("output");
     free(answers);
+}
+
+static void print_totals(struct bytes log)
+{
+    uint64_t totals[LAMPTWIN_TOTALS_ROOM];
+    if (lamptwin_totals(log.start, log.length, totals, LAMPTWIN_TOTALS_ROOM) != 0) {
+        fprintf(stderr, "totals: the row is too short\n");
+        exit(EXIT_FAILURE);
+    }
+    for (int place = 0; place < LAMPTWIN_TOTALS_ROOM; place += 2) {
+        uint64_t lit = totals[place];
+        uint64_t unlit = totals[place + 1];
+        if (lit > 0 || unlit > 0)
+            printf("dev=%d out=%d lit=%" PRIu64 " unlit=%" PRIu64 "\n", place / 32, place % 32 / 2, lit, unlit);
+    }
+}
+
+int main(int count, char **arguments)
+{
+    const char *use = count == 1 ? "run" : arguments[1];
+    int replay = strcmp(use, "replay") == 0;
+    int totals = strcmp(use, "totals") == 0;
+    if (count > 2 || (count == 2 && !replay && !totals)) {
+        fprintf(stderr, "usage: %s [replay | totals]\n", arguments[0]);
+        return EXIT_FAILURE;
+    }
+    struct bytes log = read_all(stdin);
+    if (totals)
+        print_totals(log);
+    else
+        print_answers(log, replay);
+    if (fflush(stdout) != 0)
+        fail("output");
     free(log.start);
     return EXIT_SUCCESS;
 }

@@ -8,12 +8,20 @@
 //!
 //! A recorded log has `at=STAMP` and a space before each line. The stamp
 //! counts driver ticks and goes from 2^32 - 1 to 0; what has passed since the
-//! last accepted line goes to every driver before the event.
+//! last accepted line goes to every driver before the event. Each output of a
+//! board has two totals: the ticks or steps of all accepted waits, a line's
+//! time among them, at which its lamp was lit, and those at which it was not.
 
 use std::fmt;
 
 /// No answer line is longer, its line feed included.
 pub const ANSWER_ROOM: usize = 76;
+
+/// The numbers in a row of totals: two for each of 16 outputs of 8 boards.
+pub const TOTALS_ROOM: usize = 256;
+
+/// The library's number for a lent row that is too short.
+const SHORT_ROW: u64 = 8;
 
 mod declared {
     // A slice of the library is a pointer and a length.
@@ -31,6 +39,12 @@ mod declared {
             answers: *mut u8,
             answers_length: usize,
         ) -> usize;
+        pub fn lamptwin_totals(
+            log: *const u8,
+            log_length: usize,
+            totals: *mut u64,
+            totals_length: usize,
+        ) -> u64;
     }
 
     /// One of the calls above that answer a log.
@@ -51,6 +65,19 @@ impl fmt::Display for TooShort {
 }
 
 impl std::error::Error for TooShort {}
+
+/// The row lent for the totals has fewer than `TOTALS_ROOM` numbers; nothing
+/// was written.
+#[derive(Debug, Clone, Copy, PartialEq, Eq)]
+pub struct RowTooShort;
+
+impl fmt::Display for RowTooShort {
+    fn fmt(&self, f: &mut fmt::Formatter<'_>) -> fmt::Result {
+        write!(f, "the totals need a row of {TOTALS_ROOM} numbers")
+    }
+}
+
+impl std::error::Error for RowTooShort {}
 
 /// The number of lines in the log, each of which has one answer.
 pub fn lines(log: &[u8]) -> usize {
@@ -104,4 +131,30 @@ fn all_answers(call: declared::Answering, log: &[u8]) -> Vec<u8> {
     let written = answer_into(call, log, &mut answers).expect("the buffer has the room asked for");
     answers.truncate(written);
     answers
+}
+
+/// Writes the totals at the end of a recorded log to the start of the row: at
+/// 32 times position plus 2 times output the lit ticks or steps, behind it the
+/// unlit ones, and 0 where there is no such output.
+pub fn totals_into(log: &[u8], totals: &mut [u64]) -> Result<(), RowTooShort> {
+    // SAFETY: both pointers are valid for their lengths and never null, a
+    // shared and a mutable slice cannot overlap, and the call writes within
+    // the second alone, and not at all where it is too short.
+    let code = unsafe {
+        declared::lamptwin_totals(log.as_ptr(), log.len(), totals.as_mut_ptr(), totals.len())
+    };
+    let short = totals.len() < TOTALS_ROOM;
+    let expected = if short { SHORT_ROW } else { 0 };
+    assert_eq!(code, expected, "a row is refused exactly where it is short");
+    if short {
+        return Err(RowTooShort);
+    }
+    Ok(())
+}
+
+/// The totals at the end of a recorded log.
+pub fn totals(log: &[u8]) -> [u64; TOTALS_ROOM] {
+    let mut totals = [0; TOTALS_ROOM];
+    totals_into(log, &mut totals).expect("the row has the room asked for");
+    totals
 }

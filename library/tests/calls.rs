@@ -1,6 +1,7 @@
 //! The linked library on the worked cases, and at the edges of its buffers.
 
 use lamptwin::{lines, replay, replay_into, run, run_into, TooShort, ANSWER_ROOM};
+use lamptwin::{totals, totals_into, RowTooShort, TOTALS_ROOM};
 use std::fs;
 
 mod library {
@@ -17,6 +18,12 @@ mod library {
             answers: *mut u8,
             answers_length: usize,
         ) -> usize;
+        pub fn lamptwin_totals(
+            log: *const u8,
+            log_length: usize,
+            totals: *mut u64,
+            totals_length: usize,
+        ) -> u64;
     }
 }
 
@@ -55,6 +62,27 @@ impl Call {
     }
 }
 
+/// The same for the totals.
+fn bare_totals(log: &[u8], totals: &mut [u64]) -> u64 {
+    let (start, length) = (totals.as_mut_ptr(), totals.len());
+    // SAFETY: the pointers are valid for the lengths given.
+    unsafe { library::lamptwin_totals(log.as_ptr(), log.len(), start, length) }
+}
+
+/// A line for each output that has waited, by position, then output.
+fn totals_as_text(log: &[u8]) -> Vec<u8> {
+    let row = totals(log);
+    let waited = (0..TOTALS_ROOM)
+        .step_by(2)
+        .filter(|&place| row[place..place + 2] != [0, 0]);
+    let line = |place: usize| {
+        let (position, output) = (place / 32, place % 32 / 2);
+        let (lit, unlit) = (row[place], row[place + 1]);
+        format!("dev={position} out={output} lit={lit} unlit={unlit}\n")
+    };
+    waited.map(line).collect::<String>().into_bytes()
+}
+
 fn assert_cases_answered(folder: &str, answer: fn(&[u8]) -> Vec<u8>) {
     let folder = format!("{}/../tests/{folder}", env!("CARGO_MANIFEST_DIR"));
     let mut compared = 0;
@@ -78,6 +106,11 @@ fn worked_cases_are_answered() {
 #[test]
 fn worked_replays_are_answered() {
     assert_cases_answered("replays", replay);
+}
+
+#[test]
+fn worked_totals_are_given() {
+    assert_cases_answered("totals", totals_as_text);
 }
 
 #[test]
@@ -135,6 +168,8 @@ fn each_call_refuses_the_lines_of_the_other() {
     let refused = b"n=1 code=4 value=0\nn=2 code=4 value=0\n";
     assert_eq!(run(REPLAY.two_lines), refused);
     assert_eq!(replay(RUN.two_lines), refused);
+    let plain = b"ev=add chip=9635 addr=21\nev=wait dev=0 ticks=5\n";
+    assert_eq!(totals(plain), [0; TOTALS_ROOM]);
 }
 
 #[test]
@@ -204,5 +239,100 @@ fn the_rest_of_a_buffer_stays() {
             assert_eq!(&answers[..written], TWO_ANSWERS);
             assert!(answers[written..].iter().all(|&byte| byte == 7));
         }
+    }
+}
+
+/// A PCA9635 whose outputs 0 to 3 have the modes 00 to 11, with brightness 64
+/// for output 2, 128 for output 3 and M 1 for the group; awake from tick 0 to
+/// 778, asleep there for 1,000 ticks. Then a PCA9531 whose outputs 0 to 3 have
+/// the modes 00 to 11, both blinks as they are after reset, for 300 steps.
+const LAMPS: &[u8] = b"at=0 ev=add chip=9635 addr=21
+at=0 ev=start
+at=0 ev=put byte=42
+at=0 ev=put byte=0
+at=0 ev=put byte=1
+at=0 ev=start
+at=0 ev=put byte=42
+at=0 ev=put byte=132
+at=0 ev=put byte=64
+at=0 ev=put byte=128
+at=0 ev=start
+at=0 ev=put byte=42
+at=0 ev=put byte=18
+at=0 ev=put byte=1
+at=0 ev=start
+at=0 ev=put byte=42
+at=0 ev=put byte=20
+at=0 ev=put byte=228
+at=0 ev=stop
+at=500 ev=wait dev=0 ticks=200
+at=578 ev=start
+at=578 ev=put byte=42
+at=578 ev=put byte=0
+at=578 ev=put byte=17
+at=578 ev=stop
+at=1178 ev=wait dev=0 ticks=400
+at=1178 ev=add chip=9531 addr=0
+at=1178 ev=start
+at=1178 ev=put byte=192
+at=1178 ev=put byte=5
+at=1178 ev=put byte=228
+at=1178 ev=stop
+at=1178 ev=wait dev=1 ticks=300
+at=1179 ev=wait dev=1 ticks=281474976710656
+";
+
+/// Output 2 is lit in the first 64 ticks of each 256: 3 times 64 and 10 of the
+/// 778, and all the while asleep; output 3 in the first 128 of each 256, but
+/// only below tick 512, so it sleeps unlit. A blink is lit in 128 steps of each
+/// 256: 128 and 44 of the 300. The last line is refused, and its tick does not
+/// pass.
+#[test]
+fn totals_of_each_mode() {
+    let mut expected = [0; TOTALS_ROOM];
+    expected[..8].copy_from_slice(&[0, 1778, 1778, 0, 1202, 576, 256, 1522]);
+    for output in 4..16 {
+        expected[2 * output + 1] = 1778;
+    }
+    expected[32..40].copy_from_slice(&[0, 300, 300, 0, 172, 128, 172, 128]);
+    for output in 4..8 {
+        expected[32 + 2 * output + 1] = 300;
+    }
+    assert_eq!(totals(LAMPS), expected);
+    assert_eq!(totals(LAMPS.trim_ascii_end()), expected);
+}
+
+#[test]
+fn an_empty_log_has_zeros() {
+    assert_eq!(totals(b""), [0; TOTALS_ROOM]);
+    let mut row = [7; TOTALS_ROOM];
+    assert_eq!(totals_into(b"", &mut row), Ok(()));
+    assert_eq!(row, [0; TOTALS_ROOM]);
+}
+
+#[test]
+fn a_short_row_is_refused_and_stays() {
+    for length in [0, 1, TOTALS_ROOM - 1] {
+        let mut row = vec![7; length];
+        assert_eq!(totals_into(LAMPS, &mut row), Err(RowTooShort));
+        assert!(row.iter().all(|&number| number == 7));
+        assert_eq!(bare_totals(LAMPS, &mut row), 8);
+        assert!(row.iter().all(|&number| number == 7));
+    }
+}
+
+/// In a row of just the room asked for, and in longer ones.
+#[test]
+fn the_rest_of_a_row_stays() {
+    for length in [TOTALS_ROOM, TOTALS_ROOM + 1, TOTALS_ROOM + 4] {
+        let mut row = vec![7; length];
+        assert_eq!(totals_into(LAMPS, &mut row), Ok(()));
+        assert_eq!(row[..TOTALS_ROOM], totals(LAMPS));
+        assert!(row[TOTALS_ROOM..].iter().all(|&number| number == 7));
+
+        let mut row = vec![7; length];
+        assert_eq!(bare_totals(LAMPS, &mut row), 0);
+        assert_eq!(row[..TOTALS_ROOM], totals(LAMPS));
+        assert!(row[TOTALS_ROOM..].iter().all(|&number| number == 7));
     }
 }

@@ -34,7 +34,7 @@ impl Generator {
     /// The time that all drivers have left.
     fn common_room(&self) -> u64 {
         let rooms = self.driver_positions().into_iter();
-        let rooms = rooms.map(|position| self.room(position));
+        let rooms = rooms.map(|position| self.wait_room(position));
         rooms.min().unwrap_or(MAX_COUNT)
     }
 
@@ -94,8 +94,8 @@ impl Generator {
 
     // Plans.
 
-    /// Sometimes frees a driver that lets no time pass, or brings a device
-    /// close to its limit; gives whether anything was planned.
+    /// Sometimes frees a driver whose count lets no time pass, or brings a
+    /// device close to its limit; gives whether anything was planned.
     pub(super) fn plan_for_limit(&mut self) -> bool {
         if self.replay.bus.devices.is_empty() {
             return false;
@@ -169,7 +169,7 @@ impl Generator {
         let drivers = self.driver_positions();
         let position = *self.random.pick(&drivers);
         let more = self.random.below(self.pause);
-        let ticks = self.room(position) + *self.random.pick(&[0, 1, 1 + more]);
+        let ticks = self.wait_room(position) + *self.random.pick(&[0, 1, 1 + more]);
         let device = position as u64;
         if self.random.chance(50) {
             return Event::Wait { device, ticks };
@@ -261,31 +261,14 @@ fn misplaced_stamp(random: &mut Random, stamp: u32, event: &str) -> String {
 mod tests {
     use super::*;
     use crate::check::damage_share;
+    use crate::generate::situations::{lines_of, Counts, Line};
     use crate::generate::{log, stamped_log};
     use crate::model::{Bus, Chip};
-    use crate::replay::Replay;
-    use std::collections::{BTreeMap, BTreeSet};
-
-    /// A line of a log, with the replay before it and its answer's code.
-    struct Line<'a> {
-        bytes: &'a [u8],
-        before: Replay,
-        code: u64,
-    }
+    use crate::sort::Sort;
+    use std::collections::BTreeSet;
 
     fn replayed(log: &[u8]) -> Vec<Line<'_>> {
-        let mut replay = Replay::default();
-        text::lines(log)
-            .map(|bytes| {
-                let before = replay.clone();
-                let code = replay.answer(bytes).0;
-                Line {
-                    bytes,
-                    before,
-                    code,
-                }
-            })
-            .collect()
+        lines_of(Sort::Stamped, log)
     }
 
     fn codes(log: &[u8]) -> Vec<u64> {
@@ -324,20 +307,6 @@ mod tests {
         for damage in [0, 1, 50, 99, 100] {
             let log = stamped_log(3, 300, damage);
             assert!(text::lines(&log).count() >= 300);
-        }
-    }
-
-    /// How often each situation occurs.
-    #[derive(Default)]
-    struct Counts(BTreeMap<String, usize>);
-
-    impl Counts {
-        fn count(&mut self, name: impl Into<String>, holds: bool) {
-            *self.0.entry(name.into()).or_default() += holds as usize;
-        }
-
-        fn assert_all_occur(&self) {
-            assert!(self.0.values().all(|&count| count >= 5), "{:#?}", self.0);
         }
     }
 
