@@ -176,7 +176,34 @@ fn time_waits(program: &str, runs: usize) -> io::Result<ExitCode> {
             print_times(&label, &times);
         }
     }
+    time_replays(runs);
     Ok(ExitCode::SUCCESS)
+}
+
+/// A line's time goes to every board, so what eight boards take more than one
+/// is seven waits.
+fn time_replays(runs: usize) {
+    let [few, many] = wait::BOARDS;
+    println!(
+        "{} lines each of a replay, with {few} and {many} PCA9635:",
+        wait::LINES
+    );
+    println!("the time of one line with each, the time of one board's wait, and over the model's");
+    for setting in wait::SETTINGS {
+        let [one, all] =
+            wait::BOARDS.map(|boards| timing::time_replay(&wait::recording(setting, boards), runs));
+        let times = |one: &LineTime, all: &LineTime| {
+            let [one, all] = [one, all].map(LineTime::nanoseconds_a_line);
+            (one, all, (all - one) / (many - few) as f64)
+        };
+        let (one_model, all_model, model) = times(&one.model, &all.model);
+        let (one_library, all_library, library) = times(&one.library, &all.library);
+        println!(
+            "{:<10} model {one_model:4.0} ns {all_model:4.0} ns wait {model:4.0} ns  library {one_library:4.0} ns {all_library:4.0} ns wait {library:4.0} ns {:.2}",
+            setting.to_string(),
+            library / model,
+        );
+    }
 }
 
 fn print_times(label: &str, times: &LineTimes) {

@@ -154,3 +154,19 @@ pub fn time_lines(program: &str, log: &Log, runs: usize) -> io::Result<LineTimes
         program: of(c, f),
     })
 }
+
+/// The same of the model and the library on a recording.
+pub struct ReplayTimes {
+    pub model: LineTime,
+    pub library: LineTime,
+}
+
+pub fn time_replay(log: &Log, runs: usize) -> ReplayTimes {
+    let [whole, rest] = [&log.whole, &log.rest].map(|part| time(Sort::Stamped, part, runs));
+    let lines = log.lines();
+    let of = |whole, rest| LineTime { whole, rest, lines };
+    ReplayTimes {
+        model: of(whole.model, rest.model),
+        library: of(whole.library, rest.library),
+    }
+}

@@ -1,8 +1,13 @@
 //! Logs that show how long a wait takes, which sums up what every output did,
 //! and how long a put, on a bus with one PCA9635 and with eight.
+//!
+//! In a recording the time before a line goes to every board: what eight take
+//! more than one is the waits of seven, without anything that comes with a
+//! line.
 
 use crate::generate::Random;
 use crate::model::Event;
+use crate::text;
 use crate::timing::{lines_of, write_message, Log};
 use std::fmt;
 
@@ -34,6 +39,13 @@ pub enum Subject {
     Put,
 }
 
+pub const SETTINGS: [Setting; 4] = [
+    Setting::Individual,
+    Setting::Dimming,
+    Setting::Blinking,
+    Setting::Asleep,
+];
+
 pub const SUBJECTS: [Subject; 5] = [
     Subject::Wait(Setting::Individual),
     Subject::Wait(Setting::Dimming),
@@ -42,15 +54,23 @@ pub const SUBJECTS: [Subject; 5] = [
     Subject::Put,
 ];
 
-impl fmt::Display for Subject {
+impl fmt::Display for Setting {
     fn fmt(&self, f: &mut fmt::Formatter<'_>) -> fmt::Result {
         f.write_str(match self {
-            Subject::Wait(Setting::Individual) => "wait, individual",
-            Subject::Wait(Setting::Dimming) => "wait, dimming",
-            Subject::Wait(Setting::Blinking) => "wait, blinking",
-            Subject::Wait(Setting::Asleep) => "wait, asleep",
-            Subject::Put => "put",
+            Setting::Individual => "individual",
+            Setting::Dimming => "dimming",
+            Setting::Blinking => "blinking",
+            Setting::Asleep => "asleep",
         })
+    }
+}
+
+impl fmt::Display for Subject {
+    fn fmt(&self, f: &mut fmt::Formatter<'_>) -> fmt::Result {
+        match self {
+            Subject::Wait(setting) => write!(f, "wait, {setting}"),
+            Subject::Put => f.write_str("put"),
+        }
     }
 }
 
@@ -76,6 +96,37 @@ pub fn log(subject: Subject, boards: u64) -> Log {
         rest: lines_of(before.iter().chain(&after)),
         whole: lines_of(before.iter().chain(&timed).chain(&after)),
     }
+}
+
+/// A recording whose timed lines ask the first board for a pin, some time
+/// after each other; the lines before them stand at tick 0.
+pub fn recording(setting: Setting, boards: u64) -> Log {
+    let mut random = Random::new(boards);
+    let mut before = Vec::new();
+    for device in 0..boards {
+        set_board(&mut before, device, setting);
+    }
+    let rest: String = before.iter().map(|&event| stamped(0, event)).collect();
+    let mut whole = rest.clone();
+    let mut at = 0;
+    for _ in 0..LINES {
+        at += random.below(LONGEST_WAIT);
+        let pin = Event::Pin {
+            device: 0,
+            output: 0,
+        };
+        whole += &stamped(at, pin);
+    }
+    Log {
+        whole: whole.into_bytes(),
+        rest: rest.into_bytes(),
+    }
+}
+
+/// The line of an event, so many ticks after the recorder's start.
+fn stamped(ticks: u64, event: Event) -> String {
+    let at = ticks % (1 << 32);
+    format!("at={at} {}\n", text::format_event(event))
 }
 
 fn setting_of(subject: Subject) -> Setting {
@@ -137,8 +188,8 @@ fn any_put(random: &mut Random) -> Event {
 #[cfg(test)]
 mod tests {
     use super::*;
-    use crate::model::Bus;
-    use crate::text;
+    use crate::model::{Bus, Device};
+    use crate::replay::Replay;
 
     /// The bus at the end of a log, all lines of which must be accepted.
     fn bus_after(log: &[u8]) -> Bus {
@@ -157,6 +208,32 @@ mod tests {
                 assert_eq!(log.lines(), LINES);
                 for part in [&log.whole, &log.rest] {
                     assert_eq!(bus_after(part).devices.len() as u64, boards);
+                }
+            }
+        }
+    }
+
+    /// Every line of a recording is accepted, and every board waits alike.
+    #[test]
+    fn every_board_waits_in_a_recording() {
+        for setting in SETTINGS {
+            for boards in BOARDS {
+                let log = recording(setting, boards);
+                assert_eq!(log.lines(), LINES);
+                let mut replay = Replay::default();
+                for line in text::lines(&log.whole) {
+                    assert_eq!(replay.answer(line).0, 0);
+                }
+                let waited = |device: &Device| device.totals[15].waited();
+                let first = waited(&replay.bus.devices[0]);
+                assert!(first > LINES as u64);
+                assert_eq!(replay.bus.devices.len() as u64, boards);
+                if setting != Setting::Asleep {
+                    assert!(replay
+                        .bus
+                        .devices
+                        .iter()
+                        .all(|device| waited(device) == first));
                 }
             }
         }

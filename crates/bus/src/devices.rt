@@ -3,10 +3,10 @@ use crate::Bus;
 use chip::Chip;
 use device::Device;
 use device::Phase;
-use lamp::Duration;
 use protocol::Signal;
+use totals::proved_callers::fit;
 ghost use mathlib.Core.Path.{_≡_};
-ghost use mathlib.Core.Bool.{false, cond};
+ghost use mathlib.Core.Bool.{cond};
 ghost use Prim.Native.Nat.{_≤_, _<_};
 ghost use lib.ListN.{length, set};
 ghost use Rattle.chip.specs.declared.Chip.the-variants.{Pca9635};
@@ -20,8 +20,7 @@ ghost use Rattle.protocol.specs.Read.{talkOf};
 ghost use Rattle.protocol.specs.Signals.{afterSignal};
 ghost use Rattle.basics.specs.First.{mapFirst, allFirst, andFirst};
 ghost use Rattle.totals.specs.Totals.{zeros};
-ghost use Rattle.totals.specs.Wait.{exceedsFor, waitedFor};
-ghost use Rattle.bus.specs.Devices.{busOk, hasDevice, deviceAt, recordAt, withDevice, withRecord, withAdded, busAfter, emptyBus};
+ghost use Rattle.bus.specs.Devices.{busOk, hasDevice, deviceAt, withDevice, withAdded, busAfter, emptyBus};
 ghost use Rattle.bus.specs.laws.Records.{fitsAt};
 
 // A bus with no device and no message.
@@ -69,7 +68,7 @@ fn all_fit(devices: [Device; 8], lit: [u64; 128], unlit: [u64; 128], n: usize) -
         let chip = d.chip;
         let a = 16 * i;
         let e = a + 16;
-        if totals::fit(chip, &lit[a..e], &unlit[a..e]) {} else {
+        if fit(chip, &lit[a..e], &unlit[a..e]) {} else {
             return false;
         }
     }
@@ -162,37 +161,6 @@ pub fn with_added(bus: Bus, d: Device) -> Bus
     next.devices = after;
     next.lit = lit_after;
     next.unlit = unlit_after;
-    next
-}
-
-// Whether a wait would bring the device at a position past a limit.
-pub fn exceeds_at(bus: Bus, dev: usize, duration: Duration) -> bool
-    requires { ⌜ dev < 8 ⌝ }
-    ensures { λ r. ⌜ r ≡ exceedsFor (recordAt bus dev) duration ⌝ }
-{
-    let lit = bus.lit;
-    let unlit = bus.unlit;
-    let a = 16 * dev;
-    let e = a + 16;
-    let d = device_at(bus, dev as u64);
-    totals::exceeds(d, &lit[a..e], &unlit[a..e], duration)
-}
-
-// The bus once the device at a position has waited.
-pub fn with_waited(bus: Bus, dev: usize, duration: Duration) -> Bus
-    requires { ⌜ (dev < 8) × (exceedsFor (recordAt bus dev) duration ≡ false) ⌝ }
-    ensures { λ r. ⌜ r ≡ withRecord bus dev (waitedFor (recordAt bus dev) duration) ⌝ }
-{
-    let mut lit = bus.lit;
-    let mut unlit = bus.unlit;
-    let a = 16 * dev;
-    let e = a + 16;
-    let d = device_at(bus, dev as u64);
-    let after = totals::wait(d, duration, &mut lit[a..e], &mut unlit[a..e]);
-    let mut next = bus;
-    next.devices[dev] = after;
-    next.lit = lit;
-    next.unlit = unlit;
     next
 }
 

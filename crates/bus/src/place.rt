@@ -5,16 +5,15 @@ use crate::Change;
 use crate::Question;
 use crate::Reply;
 use device::Device;
-use refusals::least;
 use refusals::or_refused;
 ghost use mathlib.Core.Path.{_≡_};
 ghost use mathlib.Core.Bool.{cond};
-ghost use Prim.Native.Nat.{_<_};
 ghost use lib.Dec.{eqb};
 ghost use Rattle.refusals.specs.Refusals.{codeOf};
+ghost use Rattle.bus.specs.declared.Change.the-variants as C;
 ghost use Rattle.bus.specs.declared.Event.the-variants as E;
-ghost use Rattle.bus.specs.Devices.{busOk, recordAt, withRecord};
-ghost use Rattle.bus.specs.Place.{placeRefusals, levelRefusals, changeRefusals, afterChange, isMissing, questionRefusals, valueOf, blinkRefusals, blinkReply};
+ghost use Rattle.bus.specs.Devices.{busOk};
+ghost use Rattle.bus.specs.Place.{placeRefusals, levelRefusals, isMissing, questionRefusals, valueOf, blinkRefusals, blinkReply};
 ghost use Rattle.bus.specs.Events.{stepReply};
 
 pub fn place_code(ok: bool, bus: Bus, dev: u64) -> u64
@@ -31,52 +30,53 @@ fn level_code(most: u64, level: u64, wrong: bool) -> u64
     or_refused(or_refused(0, 7, most < level), 10, wrong)
 }
 
-fn change_code(bus: Bus, dev: usize, change: Change) -> u64
-    requires { ⌜ dev < 8 ⌝ }
-    ensures { λ r. ⌜ r ≡ codeOf (changeRefusals (recordAt bus dev) change) ⌝ }
+fn oe_at(bus: Bus, dev: u64, level: u64) -> Reply
+    requires { ⌜ codeOf (placeRefusals bus dev) ≡ 0 ⌝ }
+    ensures { λ r. ⌜ r ≡ stepReply bus (E.Change dev (C.Oe level)) ⌝ }
 {
-    let d = crate::devices::device_at(bus, dev as u64);
+    let d = crate::devices::device_at(bus, dev);
     let chip = d.chip;
-    match change {
-        Change::Wait(ticks) => {
-            let own = device::wait::own_duration(chip, ticks);
-            or_refused(0, 6, crate::devices::exceeds_at(bus, dev, own))
-        }
-        Change::Oe(level) => level_code(1, level, !chip::is_driver(chip)),
-        Change::Ext(level) => level_code(255, level, chip::is_driver(chip)),
-        Change::Reset => 0,
-    }
-}
-
-// The bus once the device at a position has changed, its totals too where it has waited.
-fn changed(bus: Bus, dev: usize, change: Change) -> Bus
-    requires { ⌜ (dev < 8) × (codeOf (changeRefusals (recordAt bus dev) change) ≡ 0) ⌝ }
-    ensures { λ r. ⌜ r ≡ withRecord bus dev (afterChange (recordAt bus dev) change) ⌝ }
-{
-    let at = dev as u64;
-    let d = crate::devices::device_at(bus, at);
-    let chip = d.chip;
-    match change {
-        Change::Wait(ticks) => {
-            crate::devices::with_waited(bus, dev, device::wait::own_duration(chip, ticks))
-        }
-        Change::Oe(level) => crate::devices::with_device(bus, at, device::with_oe(d, level == 1)),
-        Change::Ext(level) => {
-            crate::devices::with_device(bus, at, device::with_levels(d, level as u8))
-        }
-        Change::Reset => crate::devices::with_device(bus, at, device::after_reset(d)),
-    }
-}
-
-fn change_at(bus: Bus, dev: usize, change: Change) -> Reply
-    requires { ⌜ (dev < 8) × (codeOf (placeRefusals bus dev) ≡ 0) ⌝ }
-    ensures { λ r. ⌜ r ≡ stepReply bus (E.Change dev change) ⌝ }
-{
-    let code = change_code(bus, dev, change);
+    let code = level_code(1, level, !chip::is_driver(chip));
     if code == 0 {
-        crate::done(0, changed(bus, dev, change))
+        let after = device::with_oe(d, level == 1);
+        crate::done(0, crate::devices::with_device(bus, dev, after))
     } else {
         crate::refused(bus, code)
+    }
+}
+
+fn ext_at(bus: Bus, dev: u64, level: u64) -> Reply
+    requires { ⌜ codeOf (placeRefusals bus dev) ≡ 0 ⌝ }
+    ensures { λ r. ⌜ r ≡ stepReply bus (E.Change dev (C.Ext level)) ⌝ }
+{
+    let d = crate::devices::device_at(bus, dev);
+    let chip = d.chip;
+    let code = level_code(255, level, chip::is_driver(chip));
+    if code == 0 {
+        let after = device::with_levels(d, level as u8);
+        crate::done(0, crate::devices::with_device(bus, dev, after))
+    } else {
+        crate::refused(bus, code)
+    }
+}
+
+// At a position that has no number of its own. Only a wait touches the totals.
+fn change_at(bus: Bus, dev: u64, change: Change) -> Reply
+    requires { ⌜ codeOf (placeRefusals bus dev) ≡ 0 ⌝ }
+    ensures { λ r. ⌜ r ≡ stepReply bus (E.Change dev change) ⌝ }
+{
+    let d = crate::devices::device_at(bus, dev);
+    let chip = d.chip;
+    match change {
+        Change::Wait(ticks) => {
+            crate::units::wait_at(bus, dev as usize, device::wait::own_duration(chip, ticks))
+        }
+        Change::Oe(level) => oe_at(bus, dev, level),
+        Change::Ext(level) => ext_at(bus, dev, level),
+        Change::Reset => {
+            let after = device::after_reset(d);
+            crate::done(0, crate::devices::with_device(bus, dev, after))
+        }
     }
 }
 
@@ -86,7 +86,7 @@ pub fn change(ok: bool, bus: Bus, dev: u64, change: Change) -> Reply
 {
     let code = place_code(ok, bus, dev);
     if code == 0 {
-        change_at(bus, dev as usize, change)
+        change_at(bus, dev, change)
     } else {
         crate::refused(bus, code)
     }

@@ -6,11 +6,15 @@ use crate::place::place_code;
 use device::Device;
 use lamp::Duration;
 use refusals::or_refused;
+use totals::proved_callers::exceeds;
+use totals::proved_callers::wait;
 ghost use mathlib.Core.Path.{_≡_};
 ghost use Prim.Native.Nat.{_<_};
+ghost use lib.ListN.{length};
 ghost use Rattle.device.specs.Output.{litFor};
+ghost use Rattle.totals.specs.Totals.{recordOf};
 ghost use Rattle.refusals.specs.Refusals.{codeOf};
-ghost use Rattle.bus.specs.Devices.{busOk, recordAt};
+ghost use Rattle.bus.specs.Devices.{busOk};
 ghost use Rattle.bus.specs.Place.{placeRefusals};
 ghost use Rattle.bus.specs.Units.{isForeign, waitRefusals, waitForReply, litForRefusals, litForReply};
 
@@ -21,23 +25,33 @@ fn is_foreign(d: Device, duration: Duration) -> bool
     !device::wait::is_own(chip, duration)
 }
 
-// The numbers of the wait itself, once the position has none.
-fn wait_code(bus: Bus, dev: usize, duration: Duration) -> u64
-    requires { ⌜ dev < 8 ⌝ }
-    ensures { λ r. ⌜ r ≡ codeOf (waitRefusals (recordAt bus dev) duration) ⌝ }
+// The numbers of the wait itself.
+fn wait_code(d: Device, lit: &[u64], unlit: &[u64], duration: Duration) -> u64
+    requires { ⌜ (length (now lit) ≡ 16) × (length (now unlit) ≡ 16) ⌝ }
+    ensures { λ r. ⌜ r ≡ codeOf (waitRefusals (recordOf d (now (lit .entry)) (now (unlit .entry))) duration) ⌝ }
 {
-    let code = or_refused(0, 6, crate::devices::exceeds_at(bus, dev, duration));
-    let d = crate::devices::device_at(bus, dev as u64);
+    let code = or_refused(0, 6, exceeds(d, lit, unlit, duration));
     or_refused(code, 10, is_foreign(d, duration))
 }
 
-fn wait_at(bus: Bus, dev: usize, duration: Duration) -> Reply
+// At a position that has no number of its own. The totals of the device are lent to its wait.
+pub fn wait_at(bus: Bus, dev: usize, duration: Duration) -> Reply
     requires { ⌜ (dev < 8) × (codeOf (placeRefusals bus dev) ≡ 0) ⌝ }
     ensures { λ r. ⌜ r ≡ waitForReply bus dev duration ⌝ }
 {
-    let code = wait_code(bus, dev, duration);
+    let mut lit = bus.lit;
+    let mut unlit = bus.unlit;
+    let a = 16 * dev;
+    let e = a + 16;
+    let d = bus.devices[dev];
+    let code = wait_code(d, &lit[a..e], &unlit[a..e], duration);
     if code == 0 {
-        crate::done(0, crate::devices::with_waited(bus, dev, duration))
+        let after = wait(d, duration, &mut lit[a..e], &mut unlit[a..e]);
+        let mut next = bus;
+        next.devices[dev] = after;
+        next.lit = lit;
+        next.unlit = unlit;
+        crate::done(0, next)
     } else {
         crate::refused(bus, code)
     }

@@ -21,7 +21,7 @@ fn place_codes(bus: Bus, dev: u64) {
 }
 
 // The bus's events; those of a device, and the blink-start question; the messages.
-fn codes(bus: Bus, dev: u64) {
+pub fn codes(bus: Bus, dev: u64) {
     let mut buffer = [0u8; 1];
     line::text(b":");
     line::named_code(b" add=", bus::calls::add(bus, 9531, 0));

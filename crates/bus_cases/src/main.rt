@@ -2,7 +2,9 @@
 // counts in decimal.
 mod buses;
 mod handed;
+mod sums;
 
 fn main() {
     buses::run();
+    sums::run();
 }

@@ -9,12 +9,10 @@ use lamp::DriverTicks;
 use lamp::Shared;
 ghost use mathlib.Core.Path.{_≡_};
 ghost use mathlib.Core.Bool.{cond};
-ghost use Prim.Native.Nat.{_+_, _<_};
+ghost use Prim.Native.Nat.{_<_};
 ghost use Rattle.lamp.specs.declared.Duration.the-variants.{Ticks, Steps};
 ghost use Rattle.chip.specs.Kinds.{outputsOf};
-ghost use Rattle.chip.specs.Registers.{pwm0};
-ghost use Rattle.device.specs.Registers.{inEffect};
-ghost use Rattle.device.specs.laws.Output.{grppwmOf, driverShared, sharedOutput};
+ghost use Rattle.device.specs.laws.Output.{grppwmOf, driverShared};
 ghost use Rattle.device.specs.Output.{pairOf, ledoutOf, driverOutput, blinkerMode, lsOf, blinkOf, blinkerBy, blinkerOutput, litNow, litFor, undriven, disabledPin, driverPin, pinOf, inputBit, inputByte};
 
 // The levels of a pin.
@@ -24,7 +22,8 @@ const HIGH: u64 = 1;
 
 const HIGH_Z: u64 = 2;
 
-fn pair(byte: u8, out: u8) -> u8
+// An output's two bits of a byte that holds those of four.
+pub fn pair(byte: u8, out: u8) -> u8
     ensures { λ r. ⌜ r ≡ pairOf byte out ⌝ }
 {
     let place = out % 4;
@@ -172,7 +171,7 @@ pub fn blinker_lit(d: Device, out: u8, steps: BlinkerSteps) -> BlinkerSteps
     }
 }
 
-// What all outputs of a driver share over a wait; with it, the lit ticks of one of them.
+// What all outputs of a driver share over a wait.
 pub fn driver_shared(d: Device, ticks: DriverTicks) -> Shared
     ensures { λ r. ⌜ r ≡ driverShared d (ticks .0) ⌝ }
     ensures { λ r. ⌜ grppwmOf d < 256 ⌝ }
@@ -191,14 +190,6 @@ pub fn driver_shared(d: Device, ticks: DriverTicks) -> Shared
         DriverTicks(d.count),
         ticks,
     )
-}
-
-pub fn shared_output(d: Device, out: u8, s: Shared) -> DriverTicks
-    ensures { λ r. ⌜ r .0 ≡ sharedOutput d out s ⌝ }
-    ensures { λ r. ⌜ inEffect d (pwm0 + out) < 256 ⌝ }
-{
-    let pwm = registers::in_effect(d, chip::PWM0 as usize + out as usize);
-    lamp::shared_lit(ledout_of(d, out), pwm, s)
 }
 
 fn undriven(d: Device) -> u64

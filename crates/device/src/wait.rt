@@ -129,12 +129,3 @@ pub fn blinker_after_wait(d: Device, steps: BlinkerSteps) -> Device
         next
     }
 }
-
-pub fn after_wait(d: Device, duration: Duration) -> Device
-    ensures { λ r. ⌜ r ≡ afterWaitFor d duration ⌝ }
-{
-    match duration {
-        Duration::Ticks(ticks) => driver_after_wait(d, ticks),
-        Duration::Steps(steps) => blinker_after_wait(d, steps),
-    }
-}

@@ -2,46 +2,50 @@
 -- answers, or of the rest of the wait; from 0 on for a device that is added; the same for a recording. No other event changes a total, and totals change no answer but a wait's 6.
 use mathlib.Core.Path.{_≡_, refl, sym, ap, _∙_}
 use mathlib.Core.Bool.{true, false, true≢false}
-use mathlib.Core.List.{List, [], _∷_, _++_}
+use mathlib.Core.List.{List, [], _∷_}
 use Prim.Native.Nat.{ℕ, _+_, _≤_, _<_}
 use native.Mathlib.Omega.{arith}
-use Rattle.chip.specs.Kinds.{outputsOf}
+use lib.Dec.{leb, eqb}
+use lib.ListN.{set}
+use borrow.Author.Tests.{not-false, leb-true, lt-ltb, leb-false, eqb-true, eqb-false, ne-eqb}
+use Rattle.basics.specs.laws.Logic.{holds, fails, tested, neither}
+use Rattle.basics.specs.laws.Parts.{part-same}
+use Rattle.basics.specs.laws.Below.{below-at}
+use Rattle.chip.specs.Kinds.{chipNumbered, outputsOf}
+use Rattle.chip.specs.declared.Lookup.{Lookup}
+use Rattle.chip.specs.declared.Lookup.the-variants.{Known, Unknown}
+use Rattle.device.specs.Wait.{isTooLong}
+use Rattle.totals.specs.Wait.{exceeds}
+use Rattle.totals.specs.Totals.{totalLimit, zeros, totalsWithin}
+use Rattle.totals.specs.declared.Record.{Record}
+use Rattle.refusals.specs.Refusals.{codeOf, holdsAt}
 use Rattle.bus.specs.Devices.{busOk, hasDevice, deviceAt, recordAt}
 use Rattle.bus.specs.Place.{changeRefusals, afterChange}
 use Rattle.bus.specs.Events.{stepReply, stepRefusals, stepDone, runBus, waitReply, litReply}
-use Rattle.bus.specs.declared.Change.the-variants.{Wait}
-use Rattle.bus.specs.declared.Event.the-variants as E
-use Rattle.device.specs.Wait.{isTooLong}
-use Rattle.totals.specs.Wait.{exceeds}
-use Rattle.basics.specs.laws.Logic.{holds, fails, tested, neither}
-use lib.Dec.{leb, eqb}
-use lib.ListN.{set}
-use borrow.Author.Tests.{not-false, leb-true, leb-false, eqb-true, eqb-false, ne-eqb}
-use Rattle.refusals.specs.Refusals.{codeOf, holdsAt}
 use Rattle.bus.specs.Signals.{signalValue}
+use Rattle.bus.specs.Add.{isUnknown, addedTo}
+use Rattle.bus.specs.Promises.{step-code, refused-same, step-well}
+use Rattle.bus.specs.laws.WellFormed.{at-fits}
+use Rattle.bus.specs.laws.Records.{nought}
+use Rattle.bus.specs.declared.Event.the-variants as E
 use Rattle.bus.specs.declared.SignalEvent.{SignalEvent}
 use Rattle.bus.specs.declared.SignalEvent.the-variants as S
-use Rattle.basics.specs.laws.Parts.{part-same}
-use Rattle.chip.specs.Kinds.{chipNumbered}
-use Rattle.chip.specs.declared.Lookup.{Lookup}
-use Rattle.chip.specs.declared.Lookup.the-variants.{Known, Unknown}
-use Rattle.basics.specs.laws.Below.{below-at}
-use Rattle.totals.specs.Totals.{totalLimit, zeros, totalsWithin}
-use Rattle.bus.specs.laws.WellFormed.{at-fits}
-use Rattle.totals.specs.declared.Record.{Record}
-use Rattle.bus.specs.Add.{isUnknown, addedTo}
-use Rattle.bus.specs.laws.Records.{nought}
 use Rattle.bus.specs.declared.Change.{Change}
 use Rattle.bus.specs.declared.Change.the-variants as C
-use Rattle.replay.specs.Replay.{replayBus}
-use Rattle.replay.specs.ByHand.{allByHand, flat}
-use Rattle.replay.specs.Promises.{recording-by-hand}
-use Rattle.replay.specs.declared.Clock.{Clock}
-use Rattle.replay.specs.declared.Entry.{Entry}
-use Rattle.bus.specs.Promises.{step-code, refused-same, step-well}
 use Rattle.bus.specs.declared.Bus.{Bus}
 use Rattle.bus.specs.declared.Event.{Event}
-use Rattle.history.specs.History.{litTotal, unlitTotal, waitShare, litShare, waitSum, litSum, restSum, isWaiting, isWait, isWaitAt, withTotals}
+use Rattle.bus.specs.declared.Reply.{Reply}
+use Rattle.replay.specs.Time.{since, afterTime}
+use Rattle.replay.specs.Replay.{replayed, replayBus}
+use Rattle.replay.specs.ByHand.{allByHand, flat}
+use Rattle.replay.specs.Promises.{replay-accepted, replay-event, replay-shape, recording-by-hand}
+use Rattle.replay.specs.laws.Alike.{time-count}
+use Rattle.replay.specs.declared.Clock.{Clock}
+use Rattle.replay.specs.declared.Clock.the-variants.{At}
+use Rattle.replay.specs.declared.Entry.{Entry}
+use Rattle.replay.specs.declared.Entry.the-variants.{Stamped}
+use Rattle.replay.specs.declared.Replayed.{Replayed}
+use Rattle.history.specs.History.{litTotal, unlitTotal, waitShare, waitSum, litSum, restSum, isWaiting, isWait, isWaitAt, withTotals}
 use Rattle.history.specs.laws.Step.{done, lit-answer, lit-few-answered, step-adds, step-stands, step-same}
 
 -- ---- any sequence of events
@@ -77,7 +81,7 @@ module _ (dev out : ℕ) where
 pub wait-asked : (b : Bus) (dev out w : ℕ) → waitReply b dev w .code ≡ 0 → out < outputsOf (deviceAt b dev .chip) → litReply b dev out w .code ≡ 0
 unfolding stepRefusals changeRefusals exceeds
 wait-asked b dev out w z k =
-    let n = done b (E.Change dev (Wait w)) z .0 in
+    let n = done b (E.Change dev (C.Wait w)) z .0 in
     lit-answer b dev out w (not-false (busOk b) (n .1 .0)) (not-false (hasDevice b dev) (n .0)) k (neither (isTooLong (deviceAt b dev) w) _ (n .1 .1 .0) .0) .0
 
 -- ---- the limit
@@ -103,12 +107,24 @@ added-zero b chip addr out z =
     let n = d .0 in
     rw (d .1) (zero-at b (chipNumbered chip) addr out (n .0) (leb-false 8 (b .count) (n .1 .1 .0)))
 
+-- and it is there
+there-at : (b : Bus) (found : Lookup) (address : ℕ) → isUnknown found ≡ false → b .count < 8 → hasDevice (addedTo b found address) (b .count) ≡ true
+there-at b Unknown address u h = absurd (true≢false u)
+there-at b (Known chip) address u h = rw (lt-ltb (b .count) (b .count + 1) (omega arith), lt-ltb (b .count) 8 h) refl
+
+added-there : (b : Bus) (chip addr : ℕ) → stepReply b (E.Add chip addr) .code ≡ 0 → hasDevice (stepReply b (E.Add chip addr) .bus) (b .count) ≡ true
+unfolding stepDone stepRefusals
+added-there b chip addr z =
+    let d = done b (E.Add chip addr) z in
+    rw (d .1) (there-at b (chipNumbered chip) addr (d .0 .0) (leb-false 8 (b .count) (d .0 .1 .1 .0)))
+
 -- so its sums start at 0
-pub added-history : (b : Bus) (chip addr out : ℕ) (l : List Event) → busOk b ≡ true → stepReply b (E.Add chip addr) .code ≡ 0 → hasDevice (stepReply b (E.Add chip addr) .bus) (b .count) ≡ true → out < outputsOf (deviceAt (stepReply b (E.Add chip addr) .bus) (b .count) .chip)
+pub added-history : (b : Bus) (chip addr out : ℕ) (l : List Event) → busOk b ≡ true → stepReply b (E.Add chip addr) .code ≡ 0 → out < outputsOf (deviceAt (stepReply b (E.Add chip addr) .bus) (b .count) .chip)
     → (litTotal (runBus b (E.Add chip addr ∷ l)) (b .count) out ≡ litSum (b .count) out (stepReply b (E.Add chip addr) .bus) l)
     × ((unlitTotal (runBus b (E.Add chip addr ∷ l)) (b .count) out ≡ restSum (b .count) out (stepReply b (E.Add chip addr) .bus) l)
     × (litTotal (runBus b (E.Add chip addr ∷ l)) (b .count) out + unlitTotal (runBus b (E.Add chip addr ∷ l)) (b .count) out ≡ waitSum (b .count) (stepReply b (E.Add chip addr) .bus) l))
-added-history b chip addr out l h z there k =
+added-history b chip addr out l h z k =
+    let there = added-there b chip addr z in
     let x = stepReply b (E.Add chip addr) .bus in
     let w = step-well b (E.Add chip addr) h in
     let o = added-zero b chip addr out z in
@@ -132,6 +148,41 @@ module _ (b : Bus) (clock : Clock) (l : List Entry) (dev out : ℕ) (h : busOk b
     rw same-bus at (lit-history dev out b hand h there k),
     (rw same-bus at (unlit-history dev out b hand h there k), rw same-bus at (both-history dev out b hand h there k)),
   )
+
+-- a device that an entry adds: from 0 on, by the waits and events of the entries behind it
+module _ (b : Bus) (clock : Clock) (at chip addr out : ℕ) (l : List Entry) (h : busOk b ≡ true) (z : replayed b clock (Stamped at (E.Add chip addr)) .reply .code ≡ 0) where
+  abbrev passed : Bus
+  passed = afterTime (since clock at) b
+
+  abbrev pub grown : Bus
+  grown = replayed b clock (Stamped at (E.Add chip addr)) .reply .bus
+
+  taken : stepReply passed (E.Add chip addr) .code ≡ 0
+  taken = replay-event b clock at (E.Add chip addr) z
+
+  grown-is : stepReply passed (E.Add chip addr) .bus ≡ grown
+  grown-is =
+      ap (λ (r : Reply). r .bus) (done passed (E.Add chip addr) taken .1)
+      ∙ sym (ap (λ (r : Replayed). r .reply .bus) (replay-accepted b clock at (E.Add chip addr) z))
+
+  grown-zero : (litTotal grown (b .count) out ≡ 0) × (unlitTotal grown (b .count) out ≡ 0)
+  grown-zero = rw (grown-is, time-count (since clock at) b) at (added-zero passed chip addr out taken)
+
+  grown-there : hasDevice grown (b .count) ≡ true
+  grown-there = rw (grown-is, time-count (since clock at) b) at (added-there passed chip addr taken)
+
+  goes-on : replayBus b clock (Stamped at (E.Add chip addr) ∷ l) ≡ replayBus grown (At at) l
+  goes-on =
+      ap (λ (c : Clock). replayBus grown c l) (ap (λ (x : Replayed). x .clock) (replay-accepted b clock at (E.Add chip addr) z))
+
+  pub recording-added : out < outputsOf (deviceAt grown (b .count) .chip)
+      → (litTotal (replayBus b clock (Stamped at (E.Add chip addr) ∷ l)) (b .count) out ≡ litSum (b .count) out grown (flat (allByHand grown (At at) l)))
+      × ((unlitTotal (replayBus b clock (Stamped at (E.Add chip addr) ∷ l)) (b .count) out ≡ restSum (b .count) out grown (flat (allByHand grown (At at) l)))
+      × (litTotal (replayBus b clock (Stamped at (E.Add chip addr) ∷ l)) (b .count) out + unlitTotal (replayBus b clock (Stamped at (E.Add chip addr) ∷ l)) (b .count) out ≡ waitSum (b .count) grown (flat (allByHand grown (At at) l))))
+  recording-added k =
+      let o = grown-zero in
+      let r = recording-history grown (At at) l (b .count) out (replay-shape b clock (Stamped at (E.Add chip addr)) ∙ h) grown-there k in
+      rw goes-on (omega (arith, r .0, o .0), (omega (arith, r .1 .0, o .1), omega (arith, r .1 .1, o .0, o .1)))
 
 -- ---- no other event changes a total
 

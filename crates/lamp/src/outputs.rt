@@ -7,7 +7,7 @@ use crate::count;
 ghost use mathlib.Core.Path.{_≡_};
 ghost use Prim.Native.Nat.{_-_, _%_, _≤_, _<_};
 ghost use Rattle.lamp.specs.Window.{oneIf};
-ghost use Rattle.lamp.specs.laws.Shared.{groupOf, awakeShared, asleepShared, sharedOf, litOn, litIn, spent, sharedLit};
+ghost use Rattle.lamp.specs.laws.Shared.{groupOf, awakeShared, asleepShared, sharedOf, litOn, litIn, sharedLit};
 
 fn less(a: u64, b: u64) -> u64
     ensures { λ r. ⌜ r ≡ a - b ⌝ }
@@ -124,9 +124,10 @@ fn lit_in(ledout: u8, pwm: u8, s: Shared) -> u64
     }
 }
 
-// The lit ticks of an output, by its two LEDOUT bits and its brightness.
+// The lit ticks of an output, by its two LEDOUT bits and its brightness, which is a byte.
 pub fn shared_lit(ledout: u8, pwm: u8, s: Shared) -> DriverTicks
     ensures { λ r. ⌜ r .0 ≡ sharedLit ledout pwm s ⌝ }
+    ensures { λ r. ⌜ pwm < 256 ⌝ }
 {
     let n = lit_in(ledout, pwm, s);
     if s.awake {

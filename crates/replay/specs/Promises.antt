@@ -15,7 +15,7 @@ use Rattle.refusals.specs.laws.Refusals.{NoneHolds, none-code, none-both, holds
 use Rattle.bus.specs.Devices.{busOk, emptyBus}
 use Rattle.bus.specs.Replies.{refusedWith}
 use Rattle.bus.specs.Events.{stepReply, stepRefusals, stepDone, runBus, runReplies}
-use Rattle.bus.specs.Promises.{empty-well}
+use Rattle.bus.specs.Promises.{step-code, empty-well}
 use Rattle.bus.specs.laws.Replies.{answer-bus, answer-exact, answer-done, answer-refused}
 use Rattle.bus.specs.laws.Runs.{run-both}
 use Rattle.bus.specs.laws.WellFormed.{done-shape, done-code}
@@ -81,6 +81,13 @@ replay-refused b clock Unknown n = refl
 pub replay-accepted : (b : Bus) (clock : Clock) (at : ℕ) (e : Event) → replayed b clock (Stamped at e) .reply .code ≡ 0 → replayed b clock (Stamped at e) ≡ record { reply = stepDone (afterTime (since clock at) b) e; clock = At at }
 unfolding replayed
 replay-accepted b clock at e z = rw (eq-eqb _ 0 z, timed-done (since clock at) b e z .1)
+
+-- the event by itself is accepted then
+pub replay-event : (b : Bus) (clock : Clock) (at : ℕ) (e : Event) → replayed b clock (Stamped at e) .reply .code ≡ 0 → stepReply (afterTime (since clock at) b) e .code ≡ 0
+unfolding replayed
+replay-event b clock at e z =
+    let m = afterTime (since clock at) b in
+    step-code m e ∙ none-code (stepRefusals m e) (none-both (stepRefusals m e) _ (timed-done (since clock at) b e z .0) .0)
 
 -- ---- well-formedness
 

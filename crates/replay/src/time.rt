@@ -5,6 +5,8 @@ use device::Device;
 use device::Phase;
 use lamp::DriverTicks;
 use lamp::Duration;
+use totals::proved_callers::exceeds;
+use totals::proved_callers::wait;
 ghost use mathlib.Core.Path.{_≡_};
 ghost use mathlib.Core.Bool.{not, _&&_};
 ghost use Prim.Native.Nat.{ℕ, _-_, _%_, _^_, _≤_, _<_};
@@ -54,13 +56,13 @@ fn wait_driver(d: Device, ticks: DriverTicks, lit: &mut [u64], unlit: &mut [u64]
 {
     let chip = d.chip;
     if chip::is_driver(chip) {
-        if totals::exceeds(d, &lit[..], &unlit[..], Duration::Ticks(ticks)) {
+        if exceeds(d, &lit[..], &unlit[..], Duration::Ticks(ticks)) {
             Waited {
                 device: d,
                 fits: false,
             }
         } else {
-            let after = totals::wait(d, Duration::Ticks(ticks), lit, unlit);
+            let after = wait(d, Duration::Ticks(ticks), lit, unlit);
             Waited {
                 device: after,
                 fits: true,

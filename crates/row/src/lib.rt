@@ -6,6 +6,7 @@ use bus::SignalEvent;
 use device::Phase;
 use refusals::or_refused;
 use totals::Record;
+use totals::proved_callers::record_waited;
 ghost use mathlib.Core.Path.{_≡_};
 ghost use mathlib.Core.Bool.{_&&_};
 ghost use Prim.Native.Nat.{_≤_, _<_};
@@ -49,7 +50,7 @@ pub fn waited_record(r: Record, ticks: u64) -> Waited
         value: 0,
     };
     if code == 0 {
-        let next = totals::record_waited(r, duration);
+        let next = record_waited(r, duration);
         Waited {
             after: next,
             answer: answer,

@@ -1,6 +1,6 @@
 -- Promises on a wait of a record that exceeds nothing, for any record: each output's lit total grows by the lit answer, its unlit total by the rest, both together by the wait; others stay;
 -- the record is as legal afterwards as it was.
-use mathlib.Core.Path.{_≡_, refl, sym, ap, _∙_}
+use mathlib.Core.Path.{_≡_, ap}
 use mathlib.Core.Bool.{true, false, _&&_}
 use Prim.Native.Nat.{ℕ, _+_, _-_, _≤_, _<_}
 use native.Mathlib.Omega.{arith}

@@ -2,16 +2,13 @@
 use device::Device;
 
 mod limits;
+pub mod proved_callers;
 mod raise;
 mod records;
 mod units;
 
-pub use limits::exceeds;
-pub use limits::fit;
-pub use raise::wait;
 pub use records::is_legal;
 pub use records::record_exceeds;
-pub use records::record_waited;
 pub use records::totals_fit;
 
 // A device, and for each of its outputs how long it was lit and how long unlit, in the unit of the device's kind, over all its waits.

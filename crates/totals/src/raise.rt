@@ -7,7 +7,7 @@ use lamp::DriverTicks;
 use lamp::Duration;
 ghost use mathlib.Core.Path.{_≡_};
 ghost use mathlib.Core.Bool.{true, false};
-ghost use Prim.Native.Nat.{_-_, _≤_, _<_};
+ghost use Prim.Native.Nat.{_-_};
 ghost use lib.ListN.{length};
 ghost use Rattle.chip.specs.Kinds.{isDriver, outputsOf};
 ghost use Rattle.device.specs.Output.{litOf};
@@ -24,8 +24,11 @@ fn driver_raise(d: Device, ticks: DriverTicks, lit: &mut [u64], unlit: &mut [u64
 {
     let chip = d.chip;
     let shared = device::output::driver_shared(d, ticks);
+    let map = chip::register_map(chip);
+    let ledout0 = map.ledout0 as usize;
     for i in 0..outputs(chip) {
-        let x = device::output::shared_output(d, i as u8, shared);
+        let ledout = device::output::pair(d.effective[ledout0 + i / 4], i as u8);
+        let x = lamp::shared_lit(ledout, d.effective[chip::PWM0 as usize + i], shared);
         let on = units::driver_sum(DriverTicks(lit[i]), x);
         let off = units::driver_sum(DriverTicks(unlit[i]), units::driver_rest(ticks, x));
         lit[i] = on.0;

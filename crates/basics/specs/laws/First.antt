@@ -1,26 +1,16 @@
 -- The first n elements of a list, for any element, function and test: what a loop over them starts with, what a turn adds, what it ends with; and what keeps a test of all.
-use Prim.Native.Nat.{ℕ, zero, suc, _+_, _≤_, _<_, min}
-use mathlib.Core.Path.{_≡_, refl, sym, ap, _∙_}
-use mathlib.Core.Logic.{⊎-elim}
+use Prim.Native.Nat.{ℕ, zero, suc, _+_, _≤_, _<_}
+use mathlib.Core.Path.{_≡_, refl, sym, ap}
 use mathlib.Core.Bool.{Bool, true, false, not, and-false, false≢true}
-use mathlib.Core.List.{List, [], _∷_, map}
+use mathlib.Core.List.{List, [], _∷_}
 use native.Mathlib.Numerals.{add-one}
 use native.Mathlib.Nat.{le-of-suc-le-suc}
 use native.Mathlib.Omega.{arith}
 use lib.Bits.{bitAnd, and-le-l}
-use lib.ListN.{length, take, drop, getD, set, drop-of-length-le}
-use lib.Seq.{take-all, set-getD}
-use Rattle.basics.specs.laws.Logic.{tested, holds, fails, lt-or-ge, and-left, and-right}
+use lib.ListN.{length, take, getD, set}
+use Rattle.basics.specs.laws.Logic.{tested, holds, fails, and-left, and-right}
 use Rattle.basics.specs.Bits.{mask}
 use Rattle.basics.specs.First.{mapFirst, allFirst, andFirst, all, andOf}
-
--- ---- as many as there are
-
-few-firsts : {A : Type 0} (l : List A) (n k : ℕ) → k ≡ min n (length l) → take k l ≡ take n l
-few-firsts l n k e = ⊎-elim (λ h. let q : k ≡ n = omega arith in rw q) (λ h. take-all k l (omega arith) ∙ sym (take-all n l h)) (lt-or-ge n (length l))
-
-few-rest : {A : Type 0} (l : List A) (n k : ℕ) → k ≡ min n (length l) → drop k l ≡ drop n l
-few-rest l n k e = ⊎-elim (λ h. let q : k ≡ n = omega arith in rw q) (λ h. let g : length l ≤ k = omega arith in drop-of-length-le l g ∙ sym (drop-of-length-le l h)) (lt-or-ge n (length l))
 
 -- ---- a function at each
 
@@ -29,7 +19,7 @@ module _ {A : Type 0} (f : A → A) where
   unfolding mapFirst
   map-none l = refl
 
-  pub map-suc : (z : A) (l : List A) (i : ℕ) → set (mapFirst i f l) i (f (getD (mapFirst i f l) i z)) ≡ mapFirst (suc i) f l
+  map-suc : (z : A) (l : List A) (i : ℕ) → set (mapFirst i f l) i (f (getD (mapFirst i f l) i z)) ≡ mapFirst (suc i) f l
   unfolding mapFirst
   map-suc z [] zero = refl
   map-suc z [] (suc i) = refl
@@ -40,33 +30,11 @@ module _ {A : Type 0} (f : A → A) where
   pub map-more : (z : A) (l now : List A) (i : ℕ) (y : A) → now ≡ mapFirst i f l → y ≡ f (getD now i z) → set now i y ≡ mapFirst (i + 1) f l
   map-more z l now i y e q = rw (add-one, q, e) (map-suc z l i)
 
-  pub map-firsts : (n : ℕ) (l : List A) → take n (mapFirst n f l) ≡ map f (take n l)
-  unfolding mapFirst
-  map-firsts zero l = refl
-  map-firsts (suc n) [] = refl
-  map-firsts (suc n) (x ∷ l) = ap (λ (t : List A). f x ∷ t) (map-firsts n l)
-
   pub map-long : (n : ℕ) (l : List A) → length (mapFirst n f l) ≡ length l
   unfolding mapFirst
   map-long zero l = refl
   map-long (suc n) [] = refl
   map-long (suc n) (x ∷ l) = ap suc (map-long n l)
-
-  -- places past the end do not count
-  pub map-few : (l : List A) (n k : ℕ) → k ≡ min n (length l) → mapFirst k f l ≡ mapFirst n f l
-  unfolding mapFirst
-  map-few l n k e = rw (few-firsts l n k e, few-rest l n k e)
-
-  -- what stands at n is not reached yet
-  pub map-at : (z : A) (l : List A) (n : ℕ) → getD (mapFirst n f l) n z ≡ getD l n z
-  unfolding mapFirst
-  map-at z l zero = refl
-  map-at z [] (suc n) = refl
-  map-at z (x ∷ l) (suc n) = map-at z l n
-
-  -- where f leaves it, the list stays
-  pub map-skip : (z : A) (l : List A) (n : ℕ) → f (getD l n z) ≡ getD l n z → mapFirst (suc n) f l ≡ mapFirst n f l
-  map-skip z l n e = sym (map-suc z l n) ∙ rw (map-at z l n, e, ← map-at z l n) (set-getD (mapFirst n f l) n z)
 
   -- what f leaves of each element, it leaves of the element at any place
   pub map-keeps : {B : Type 0} (g : A → B) → ((x : A) → g (f x) ≡ g x) → (z : A) (n : ℕ) (l : List A) (i : ℕ) → g (getD (mapFirst n f l) i z) ≡ g (getD l i z)
@@ -99,10 +67,6 @@ module _ {A : Type 0} (p : A → Bool) where
 
   pub all-done : (l : List A) (i n : ℕ) → i ≤ n → n ≤ i → allFirst i p l ≡ true → true ≡ allFirst n p l
   all-done l i n h k e = let q : n ≡ i = omega arith in rw q (sym e)
-
-  pub all-few : (l : List A) (n k : ℕ) → k ≡ min n (length l) → allFirst k p l ≡ allFirst n p l
-  unfolding allFirst
-  all-few l n k e = rw (few-firsts l n k e)
 
   -- what holds of all, and of whatever stands for a missing one, holds of each
   pub all-at : (z : A) (l : List A) (i n : ℕ) → i < n → p z ≡ true → allFirst n p l ≡ true → p (getD l i z) ≡ true
@@ -139,14 +103,6 @@ module _ {A : Type 0} (p : A → Bool) where
   all-added (x ∷ l) zero y q e = rw q
   all-added (x ∷ l) (suc n) y q e =
       rw (and-left (p x) (all p (take n l)) e) (all-added l n y q (and-right (p x) (all p (take n l)) e))
-
--- a function that leaves the test of each element leaves that of all
-pub all-kept : {A : Type 0} (p : A → Bool) (f : A → A) → ((x : A) → p (f x) ≡ p x) → (k n : ℕ) (l : List A) → allFirst k p (mapFirst n f l) ≡ allFirst k p l
-unfolding allFirst mapFirst
-all-kept p f h k zero l = refl
-all-kept p f h zero (suc n) l = refl
-all-kept p f h (suc k) (suc n) [] = refl
-all-kept p f h (suc k) (suc n) (x ∷ l) = rw (h x, all-kept p f h k n l)
 
 -- a function that takes what passes one test to what passes another
 pub all-mapped : {A : Type 0} (p q : A → Bool) (f : A → A) → ((x : A) → p x ≡ true → q (f x) ≡ true) → (n : ℕ) (l : List A) → allFirst n p l ≡ true → allFirst n q (mapFirst n f l) ≡ true

@@ -10,7 +10,6 @@ use lib.Dec.{eqb}
 use lib.ListN.{length, getD, take, drop, length-append, length-drop, List·getD-append}
 use lib.Seq.{length-take-le, getD-take, getD-drop, getD-append-add, ext-getD}
 use borrow.Author.Tests.{eq-eqb, ne-eqb, eqb-true, eqb-false}
-use Rattle.basics.specs.Tabulate.{tabulate}
 use Rattle.basics.specs.Parts.{part, withPart}
 use Rattle.basics.specs.laws.Division.{div-mod-of}
 use Rattle.basics.specs.laws.Logic.{tested, holds, fails, lt-or-ge}

@@ -1,27 +1,29 @@
 -- A change or a question at a position: its code is that of the position or of the device there, and what one that is not refused comes with.
-use mathlib.Core.Path.{_≡_, refl, sym, ap, _∙_}
-use mathlib.Core.Bool.{true, false, cond}
+use mathlib.Core.Path.{_≡_, refl, sym}
+use mathlib.Core.Bool.{Bool, true, false, cond}
 use mathlib.Core.List.{List, _++_}
 use Prim.Native.Nat.{ℕ, _≤_, _<_}
 use native.Mathlib.Omega.{arith}
 use lib.Dec.{ltb, eqb}
+use lib.ListN.{length}
 use borrow.Author.Tests.{leb-false, lt-ltb, ltb-true, ltb-false, not-false}
 use Rattle.basics.specs.laws.Logic.{holds, fails, tested, and-right}
 use Rattle.chip.specs.Kinds.{outputsOf}
 use Rattle.chip.specs.laws.Registers.{outputs-few}
 use Rattle.device.specs.declared.Device.{Device}
-use Rattle.totals.specs.Wait.{exceeds}
 use Rattle.totals.specs.declared.Record.{Record}
 use Rattle.refusals.specs.Refusals.{Refusal, least, codeOf}
 use Rattle.refusals.specs.laws.Refusals.{refused-both, above, code-first, accepted}
-use Rattle.bus.specs.Devices.{busOk, hasDevice, deviceAt}
-use Rattle.bus.specs.Place.{placeRefusals, changeRefusals, isMissing, questionRefusals, valueOf}
+use Rattle.bus.specs.Devices.{busOk, hasDevice, deviceAt, recordAt, withDevice}
+use Rattle.bus.specs.Place.{placeRefusals, levelRefusals, changeRefusals, withChip, afterChange, isMissing, questionRefusals, valueOf}
+use Rattle.bus.specs.Replies.{refusedWith, doneWith}
 use Rattle.bus.specs.Events.{stepRefusals, stepDone, stepReply}
-use Rattle.bus.specs.laws.Replies.{answer-is}
+use Rattle.bus.specs.laws.Records.{with-device-is}
+use Rattle.bus.specs.laws.Replies.{answered, turned-away, answer-is}
 use Rattle.bus.specs.declared.Bus.{Bus}
 use Rattle.bus.specs.declared.Change.{Change}
 use Rattle.bus.specs.declared.Change.the-variants.{Wait, Oe, Ext, Reset}
-use Rattle.bus.specs.declared.Event.the-variants.{Ask}
+use Rattle.bus.specs.declared.Event.the-variants as E
 use Rattle.bus.specs.declared.Question.{Question}
 use Rattle.bus.specs.declared.Question.the-variants.{Lit, Pin}
 
@@ -67,17 +69,23 @@ unfolding codeOf least
 position-free b dev o h k = rw (lt-ltb dev (b .count) h, lt-ltb dev 8 k, o) refl
 
 -- what the device answers is the reply where its position has no number
-pub device-answers : (b : Bus) (dev : ℕ) (q : Question) (d : Device) (k v : ℕ) → codeOf (placeRefusals b dev) ≡ 0 → d ≡ deviceAt b dev → k ≡ codeOf (questionRefusals d q) → v ≡ cond (eqb k 0) (valueOf d q) 0 → record { code = k; value = v; bus = b } ≡ stepReply b (Ask dev q)
+pub device-answers : (b : Bus) (dev : ℕ) (q : Question) (d : Device) (k v : ℕ) → codeOf (placeRefusals b dev) ≡ 0 → d ≡ deviceAt b dev → k ≡ codeOf (questionRefusals d q) → v ≡ cond (eqb k 0) (valueOf d q) 0 → record { code = k; value = v; bus = b } ≡ stepReply b (E.Ask dev q)
 unfolding stepReply stepRefusals stepDone
 device-answers b dev q d k v z e p w = answer-is _ _ _ _ _ (placed-code b dev k (questionRefusals (deviceAt b dev) q) z (rw (← e) p)) (rw (← e) w)
 
-pub ext-byte : (r : Record) (c : Change) (level : ℕ) → c ≡ Ext level → codeOf (changeRefusals r c) ≡ 0 → level < 256
-unfolding changeRefusals
-ext-byte r c level e z = omega (arith, ltb-false 255 level (accepted (changeRefusals r (Ext level)) refl (rw e at z) .0))
+-- a level that is not refused is at most the largest
+pub level-few : (most level : ℕ) (wrong : Bool) → codeOf (levelRefusals most level wrong) ≡ 0 → level ≤ most
+level-few most level wrong z = ltb-false most level (accepted (levelRefusals most level wrong) refl z .0)
 
-pub wait-fits : (r : Record) (c : Change) (ticks : ℕ) → c ≡ Wait ticks → codeOf (changeRefusals r c) ≡ 0 → exceeds r ticks ≡ false
-unfolding changeRefusals
-wait-fits r c ticks e z = accepted (changeRefusals r (Wait ticks)) refl (rw e at z) .0
+-- a change that is no wait, at a position that has no number: done, it leaves the totals
+module _ (b : Bus) (dev k : ℕ) (c : Change) (free : codeOf (placeRefusals b dev) ≡ 0) (code : k ≡ codeOf (changeRefusals (recordAt b dev) c)) where
+  pub changed-there : (d : Device) → length (b .lit) ≡ 128 → length (b .unlit) ≡ 128 → afterChange (recordAt b dev) c ≡ withChip (recordAt b dev) d → k ≡ 0 → doneWith 0 (withDevice b dev d) ≡ stepReply b (E.Change dev c)
+  unfolding stepReply stepRefusals stepDone
+  changed-there d l u e z = answered _ _ _ _ k (placed-code b dev k (changeRefusals (recordAt b dev) c) free code) z (rw (e, with-device-is b dev d l u) refl)
+
+  pub refused-there : (k ≡ 0 → ⊥) → refusedWith b k ≡ stepReply b (E.Change dev c)
+  unfolding stepReply stepRefusals
+  refused-there n = turned-away _ _ _ _ k (placed-code b dev k (changeRefusals (recordAt b dev) c) free code) n refl
 
 module _ (d : Device) where
   pub output-byte : (out : ℕ) → isMissing d out ≡ false → out < 256

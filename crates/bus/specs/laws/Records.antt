@@ -1,7 +1,7 @@
 -- The records of a bus: what stands at a position when one record, or every device, is replaced; and that their totals stay such as can be handed in.
-use mathlib.Core.Path.{_≡_, refl, sym, ap, _∙_}
+use mathlib.Core.Path.{_≡_, refl, ap, _∙_}
 use mathlib.Core.Logic.{⊎-elim}
-use mathlib.Core.Bool.{Bool, true, false}
+use mathlib.Core.Bool.{Bool, true}
 use mathlib.Core.List.{List, [], _∷_, _++_, append-nil}
 use Prim.Native.Nat.{ℕ, zero, suc, _+_, _-_, _*_, _≤_, _<_}
 use native.Mathlib.Numerals.{add-one}
@@ -9,12 +9,10 @@ use native.Mathlib.Omega.{arith}
 use lib.Dec.{eqb}
 use lib.ListN.{length, getD, set, take, drop, replicate, length-replicate, getD-replicate, drop-of-length-le, List·getD-eq-default}
 use lib.Seq.{getD-set-same, getD-set-other, set-out}
-use borrow.Author.Tests.{eqb-true, eqb-false, le-leb}
+use borrow.Author.Tests.{eqb-true, eqb-false}
 use Rattle.basics.specs.Below.{allBelow}
-use Rattle.basics.specs.First.{mapFirst}
 use Rattle.basics.specs.Parts.{part, withPart}
 use Rattle.basics.specs.laws.Below.{below-at, below-all, below-alike}
-use Rattle.basics.specs.laws.First.{map-keeps}
 use Rattle.basics.specs.laws.Lists.{getD-there, filled-more}
 use Rattle.basics.specs.laws.Logic.{holds, fails, tested, lt-or-ge}
 use Rattle.basics.specs.laws.Parts.{part-long, part-same, part-other, lent-part, part-back, with-own}
@@ -23,7 +21,7 @@ use Rattle.chip.specs.declared.Chip.{Chip}
 use Rattle.chip.specs.declared.Chip.the-variants.{Pca9635}
 use Rattle.device.specs.Reset.{fresh}
 use Rattle.device.specs.declared.Device.{Device}
-use Rattle.totals.specs.Totals.{totalLimit, recordOf, zeros, totalsWithin, totalsFit}
+use Rattle.totals.specs.Totals.{recordOf, zeros, totalsWithin, totalsFit}
 use Rattle.totals.specs.declared.Record.{Record}
 use Rattle.bus.specs.Devices.{deviceAt, recordAt, withDevice, withRecord, withAdded}
 use Rattle.bus.specs.declared.Bus.{Bus}
@@ -141,7 +139,11 @@ pub record-back : (b : Bus) (dev : ℕ) → dev < 8 → length (b .lit) ≡ 128 
 record-back b dev h l u d p q r long e =
     rw (ap (λ (x : Record). x .device) e, ap (λ (x : Record). x .lit) e, ap (λ (x : Record). x .unlit) e, given-back (b .lit) dev l h (r .lit) (long .0), given-back (b .unlit) dev u h (r .unlit) (long .1)) refl
 
--- whether they fit, of a device that is there
+-- the record of a device that is there, its totals lent
+pub record-lent : (z : Device) (b : Bus) (i : ℕ) (l : length (b .lit) ≡ 128) (u : length (b .unlit) ≡ 128) (h : i < 8) → i < length (b .devices) → recordOf (getD (b .devices) i z) (lent (b .lit) i l h) (lent (b .unlit) i u h) ≡ recordAt b i
+record-lent z b i l u h k = rw (lent-is (b .lit) i l h, lent-is (b .unlit) i u h, getD-there z none (b .devices) i k) refl
+
+-- and whether they fit
 pub fits-lent : (z : Device) (ds : List Device) (lit unlit : List ℕ) (i : ℕ) (l : length lit ≡ 128) (u : length unlit ≡ 128) (h : i < 8) → i < length ds → totalsWithin (outputsOf (getD ds i z .chip)) (lent lit i l h) (lent unlit i u h) 0 ≡ fitsAt ds lit unlit i
 fits-lent z ds lit unlit i l u h k =
     rw (lent-is lit i l h, lent-is unlit i u h, getD-there z none ds i k) refl

@@ -11,10 +11,8 @@ use Rattle.chip.specs.Kinds.{isDriver}
 use Rattle.chip.specs.Addresses.{addressAllowed}
 use Rattle.chip.specs.declared.Lookup.{Lookup}
 use Rattle.chip.specs.declared.Lookup.the-variants.{Known, Unknown}
-use Rattle.device.specs.WellFormed.{wellFormed}
 use Rattle.refusals.specs.Refusals.{Refusal, codeOf}
 use Rattle.refusals.specs.laws.Refusals.{positive, NoneHolds, accepted, Exact, exact}
-use Rattle.basics.specs.First.{allFirst}
 use Rattle.bus.specs.Devices.{busOk}
 use Rattle.bus.specs.Replies.{refusedWith, doneWith, answer}
 use Rattle.bus.specs.Add.{isUnknown, isBarred}

@@ -1,8 +1,11 @@
 -- Lit counts of all outputs of a device over one wait: by what the outputs of a driver share, and by the LS bits of a blinker's.
-use mathlib.Core.Path.{_≡_, ap, _∙_}
-use mathlib.Core.Bool.{true, false, cond}
-use Prim.Native.Nat.{ℕ, _+_, _≤_, _<_}
+use mathlib.Core.Path.{_≡_, refl, sym, ap, _∙_}
+use mathlib.Core.Bool.{true, false, false≢true}
+use mathlib.Core.List.{List}
+use Prim.Native.Nat.{ℕ, _+_, _/_, _≤_, _<_}
 use native.Mathlib.Omega.{arith}
+use lib.ListN.{getD}
+use borrow.Author.Tests.{le-leb, lt-ltb}
 use Rattle.basics.specs.laws.Logic.{tested, holds, fails}
 use Rattle.lamp.specs.Window.{countedTicks}
 use Rattle.lamp.specs.Blinker.{blinkerLit}
@@ -10,8 +13,10 @@ use Rattle.lamp.specs.laws.Count.{counted-few}
 use Rattle.lamp.specs.laws.Shared.{groupOf, sharedOf, sharedLit, awake-lit, asleep-lit}
 use Rattle.lamp.specs.declared.Shared.{Shared}
 use Rattle.chip.specs.Kinds.{isDriver, outputsOf}
-use Rattle.chip.specs.Registers.{pwm0, grppwm, grpfreq}
-use Rattle.device.specs.Output.{ledoutOf, driverOutput, lsOf, blinkerBy, blinkerOutput, lampLit, litNow, litOf}
+use Rattle.chip.specs.Registers.{pwm0, grppwm, grpfreq, ledout0, isBuffered}
+use Rattle.chip.specs.declared.Chip.{Chip}
+use Rattle.chip.specs.declared.Chip.the-variants.{Pca9635, Pca9634, Pca9531, Pca9551}
+use Rattle.device.specs.Output.{pairOf, ledoutOf, driverOutput, lsOf, blinkerBy, blinkerOutput, lampLit, litNow, litOf}
 use Rattle.device.specs.Registers.{inEffect, isAwake, isBlinking}
 use Rattle.device.specs.declared.Device.{Device}
 
@@ -44,8 +49,25 @@ shared-lit d out w e hM hN =
       | fails a ↦ rw (a, e) (asleep-lit (ledoutOf d n out) (isBlinking d) (inEffect d (pwm0 + out)) (grppwmOf d) (inEffect d (grpfreq n)) (d .count) w hM hN)
     ]
 
-pub shared-gives : (d : Device) (out w x : ℕ) (s : Shared) → isDriver (d .chip) ≡ true → (s ≡ driverShared d w) × (grppwmOf d < 256) → (x ≡ sharedOutput d out s) × (inEffect d (pwm0 + out) < 256) → x ≡ litOf d out w
-shared-gives d out w x s e p q = q .0 ∙ ap (sharedOutput d out) (p .0) ∙ shared-lit d out w e (p .1) (q .1)
+-- LEDOUT and PWM of an output have a copy in effect
+buffered : (chip : Chip) (out : ℕ) → isDriver chip ≡ true → out < outputsOf chip → (isBuffered chip (ledout0 (outputsOf chip) + out / 4) ≡ true) × (isBuffered chip (pwm0 + out) ≡ true)
+unfolding isBuffered
+buffered Pca9635 out e h = (rw (le-leb 2 (20 + out / 4) (omega arith), lt-ltb (20 + out / 4) 24 (omega arith)) refl, rw (le-leb 2 (2 + out) (omega arith), lt-ltb (2 + out) 24 (omega arith)) refl)
+buffered Pca9634 out e h = (rw (le-leb 2 (12 + out / 4) (omega arith), lt-ltb (12 + out / 4) 14 (omega arith)) refl, rw (le-leb 2 (2 + out) (omega arith), lt-ltb (2 + out) 14 (omega arith)) refl)
+buffered Pca9531 out e h = absurd (false≢true e)
+buffered Pca9551 out e h = absurd (false≢true e)
+
+-- an output's lit ticks, from that copy
+abbrev pub copiedOutput : ℕ → List ℕ → ℕ → Shared → ℕ
+copiedOutput n effective out s = sharedLit (pairOf (getD effective (ledout0 n + out / 4) 0) out) (getD effective (pwm0 + out) 0) s
+
+pub shared-gives : (d : Device) (out w x : ℕ) (s : Shared) → isDriver (d .chip) ≡ true → out < outputsOf (d .chip) → (s ≡ driverShared d w) × (grppwmOf d < 256) → getD (d .effective) (pwm0 + out) 0 < 256 → x ≡ copiedOutput (outputsOf (d .chip)) (d .effective) out s → x ≡ litOf d out w
+unfolding inEffect
+shared-gives d out w x s e h p b q =
+    let k = buffered (d .chip) out e h in
+    let led : inEffect d (ledout0 (outputsOf (d .chip)) + out / 4) ≡ getD (d .effective) (ledout0 (outputsOf (d .chip)) + out / 4) 0 = rw (k .0) in
+    let pwm : inEffect d (pwm0 + out) ≡ getD (d .effective) (pwm0 + out) 0 = rw (k .1) in
+    q ∙ sym (rw (led, pwm) refl) ∙ ap (sharedOutput d out) (p .0) ∙ shared-lit d out w e (p .1) (rw pwm b)
 
 -- ---- blinkers
 

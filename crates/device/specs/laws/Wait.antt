@@ -10,7 +10,7 @@ use Rattle.lamp.specs.Window.{countLimit}
 use Rattle.lamp.specs.Duration.{amount}
 use Rattle.chip.specs.Kinds.{isDriver}
 use Rattle.chip.specs.declared.Chip.{Chip}
-use Rattle.device.specs.Wait.{overruns, isTooLong, advanced, afterWait, isOwn, ownDuration, overrunsFor, isTooLongFor, afterWaitFor}
+use Rattle.device.specs.Wait.{overruns, isTooLong, advanced, isOwn, ownDuration, overrunsFor, isTooLongFor}
 use Rattle.device.specs.declared.Device.{Device}
 
 -- a count advances where the test of the limit holds, and stays where not
@@ -39,13 +39,10 @@ own-is-own chip n = elim (tested (isDriver chip)) [ holds e ↦ rw e e | fails e
 pub own-amount : (chip : Chip) (n : ℕ) → amount (ownDuration chip n) ≡ n
 own-amount chip n = elim (tested (isDriver chip)) [ holds e ↦ rw e | fails e ↦ rw e ]
 
--- and so it overruns and waits as the number does
+-- and so it overruns as the number does
 module _ (d : Device) (n : ℕ) where
   pub bare-overruns : overrunsFor d (ownDuration (d .chip) n) ≡ overruns d n
   bare-overruns = rw (own-is-own (d .chip) n, own-amount (d .chip) n)
 
   pub bare-too-long : isTooLongFor d (ownDuration (d .chip) n) ≡ isTooLong d n
   bare-too-long = rw (bare-overruns, own-amount (d .chip) n)
-
-  pub bare-waited : afterWaitFor d (ownDuration (d .chip) n) ≡ afterWait d n
-  bare-waited = rw (own-is-own (d .chip) n, own-amount (d .chip) n)

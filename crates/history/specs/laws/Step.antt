@@ -1,22 +1,21 @@
 -- One event: what it adds to an output's totals, and that the device stays where it is, and of its kind.
 use mathlib.Core.Path.{_≡_, refl, sym, ap, subst, _∙_}
-use mathlib.Core.Bool.{Bool, true, false, not, _&&_, cond, and-false, true≢false}
+use mathlib.Core.Bool.{true, false, and-false, true≢false}
 use mathlib.Core.List.{List}
 use Prim.Native.Nat.{ℕ, _+_, _-_, _≤_, _<_}
 use native.Mathlib.Nat.{add-zero}
-use native.Mathlib.Numerals.{add-one}
 use native.Mathlib.Omega.{arith}
 use lib.Dec.{leb, ltb, eqb}
 use lib.ListN.{length, getD}
 use lib.Seq.{getD-set-other}
-use borrow.Author.Tests.{eqb-true, eqb-false, eq-eqb, ne-eqb, ltb-true, lt-ltb, leb-true, leb-false, lt-leb, not-false}
+use borrow.Author.Tests.{eqb-true, eqb-false, eq-eqb, ne-eqb, ltb-true, lt-ltb, lt-leb, not-false}
 use Rattle.basics.specs.laws.Logic.{holds, fails, tested, and-left, and-right, neither}
 use Rattle.basics.specs.laws.First.{map-keeps}
 use Rattle.lamp.specs.Window.{litTicks, countedTicks, countLimit}
 use Rattle.chip.specs.Kinds.{chipNumbered, outputsOf}
 use Rattle.chip.specs.declared.Lookup.{Lookup}
 use Rattle.chip.specs.declared.Lookup.the-variants.{Known, Unknown}
-use Rattle.device.specs.Output.{lampLit, litNow, litOf}
+use Rattle.device.specs.Output.{litNow, litOf}
 use Rattle.device.specs.laws.Output.{lit-few}
 use Rattle.device.specs.Registers.{isAwake}
 use Rattle.device.specs.Wait.{isTooLong}
@@ -24,18 +23,18 @@ use Rattle.device.specs.declared.Device.{Device}
 use Rattle.protocol.specs.Signals.{afterSignal}
 use Rattle.protocol.specs.laws.Kind.{signal-kind}
 use Rattle.refusals.specs.laws.Refusals.{NoneHolds, none-code}
-use Rattle.totals.specs.Wait.{exceeds, waited}
+use Rattle.totals.specs.Wait.{exceeds}
 use Rattle.totals.specs.Promises.{lit-grows, unlit-grows}
 use Rattle.totals.specs.declared.Record.{Record}
 use Rattle.bus.specs.Devices.{busOk, hasDevice, deviceAt, recordAt, withRecord, busAfter}
 use Rattle.bus.specs.Add.{addedTo}
 use Rattle.bus.specs.Signals.{signalOf}
 use Rattle.bus.specs.Place.{changeRefusals, afterChange, questionRefusals, valueOf}
-use Rattle.bus.specs.Events.{stepReply, stepRefusals, stepDone, waitReply, litReply}
+use Rattle.bus.specs.Events.{stepReply, stepRefusals, stepDone, litReply}
 use Rattle.bus.specs.Promises.{step-code, refused-same}
 use Rattle.bus.specs.laws.Records.{kind-set, lit-here, unlit-here, record-other, added-at}
-use Rattle.bus.specs.laws.Replies.{answer-done, ok-count}
-use Rattle.bus.specs.laws.WellFormed.{step-positive, done-code, Kept, change-kept}
+use Rattle.bus.specs.laws.Replies.{answer-done}
+use Rattle.bus.specs.laws.WellFormed.{step-positive, done-code, change-kept}
 use Rattle.bus.specs.declared.Bus.{Bus}
 use Rattle.bus.specs.declared.Change.{Change}
 use Rattle.bus.specs.declared.Change.the-variants as C

@@ -1,18 +1,17 @@
 -- What the outputs of a driver share over a window: two stretches, one of all ticks and one of those at which the group test holds. An output's lit ticks are a
 -- difference of counts by 256 at the ends of one of them (`awake-shared`, `asleep-shared`).
-use mathlib.Core.Path.{_≡_, refl, sym, ap, _∙_}
+use mathlib.Core.Path.{_≡_, refl, sym, _∙_}
 use mathlib.Core.Bool.{Bool, true, false, _&&_, cond, and-true, and-false}
 use Prim.Native.Nat.{ℕ, suc, _+_, _-_, _*_, _%_, _≤_, _<_}
 use native.Mathlib.Nat.{le-of-lt, add-zero}
 use native.Mathlib.Numerals.{add-one}
 use native.Mathlib.Omega.{arith}
 use lib.Dec.{leb, ltb, eqb}
-use borrow.Author.Tests.{ltb-true, ltb-false, leb-true}
 use Rattle.basics.specs.laws.Logic.{tested, holds, fails}
-use Rattle.lamp.specs.Window.{oneIf, litTicks, countLimit, countedTicks}
-use Rattle.lamp.specs.Driver.{individual, grouped, dimmed, blinkPeriod, blinkOn, blinking, driverMode, driverLit}
-use Rattle.lamp.specs.laws.Count.{Counts, window, from-zero, never, every, same, dutyCount, duty-at, individual-counts, dimmed-counts, blinking-counts, blink-on-within, within-counted}
-use Rattle.lamp.specs.declared.DriverMode.the-variants.{Off, On, Individual, Dimmed, Blinking}
+use Rattle.lamp.specs.Window.{oneIf, countLimit, countedTicks}
+use Rattle.lamp.specs.Driver.{individual, grouped, blinkPeriod, blinkOn, driverMode, driverLit}
+use Rattle.lamp.specs.laws.Count.{Counts, from-zero, never, every, same, dutyCount, individual-counts, dimmed-counts, blinking-counts, blink-on-within, within-counted}
+use Rattle.lamp.specs.declared.DriverMode.the-variants.{Dimmed, Blinking}
 use Rattle.lamp.specs.declared.Group.{Group}
 use Rattle.lamp.specs.declared.Shared.{Shared}
 use Rattle.lamp.specs.declared.Stretch.{Stretch}

@@ -1,5 +1,5 @@
 -- No signal changes what kind of chip a device is.
-use mathlib.Core.Path.{_≡_, refl, _∙_}
+use mathlib.Core.Path.{_≡_, refl}
 use mathlib.Core.Bool.{Bool, true, false, _&&_}
 use Prim.Native.Nat.{ℕ}
 use Rattle.basics.specs.laws.Logic.{tested, holds, fails}

@@ -1,6 +1,6 @@
 -- Time leaves what a bus is refused for, but for 6: its shape, its phase, and the kind of each device.
 use mathlib.Core.Path.{_≡_, refl, sym, _∙_}
-use mathlib.Core.Bool.{true, false}
+use mathlib.Core.Bool.{true}
 use Prim.Native.Nat.{ℕ}
 use native.Mathlib.Nat.{le-refl}
 use lib.ListN.{length}

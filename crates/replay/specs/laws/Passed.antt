@@ -2,20 +2,17 @@
 use mathlib.Core.Path.{_≡_, refl, sym, ap, _∙_}
 use mathlib.Core.Bool.{Bool, true, false, _&&_, cond}
 use mathlib.Core.List.{List, _++_}
-use Prim.Native.Nat.{ℕ, suc, _+_, _-_, _*_, _≤_, _<_}
+use Prim.Native.Nat.{ℕ, suc, _+_, _-_, _*_, _<_}
 use native.Mathlib.Numerals.{add-one}
 use native.Mathlib.Omega.{arith}
-use lib.ListN.{length, getD, set, take, drop}
+use lib.ListN.{length, set, take, drop}
 use lib.Seq.{set-getD}
 use Rattle.basics.specs.Below.{allBelow}
-use Rattle.basics.specs.laws.Lists.{getD-there}
 use Rattle.basics.specs.laws.Logic.{holds, fails, tested}
 use Rattle.basics.specs.laws.Parts.{part-long, with-part-long, with-own}
 use Rattle.lamp.specs.declared.DriverTicks.{DriverTicks}
 use Rattle.lamp.specs.declared.Duration.the-variants.{Ticks}
 use Rattle.chip.specs.Kinds.{isDriver}
-use Rattle.chip.specs.declared.Chip.the-variants.{Pca9635}
-use Rattle.device.specs.Reset.{fresh}
 use Rattle.device.specs.declared.Device.{Device}
 use Rattle.device.specs.declared.Phase.{Phase}
 use Rattle.totals.specs.Totals.{recordOf}
@@ -23,9 +20,9 @@ use Rattle.totals.specs.Wait.{exceeds, waited, exceedsFor, waitedFor}
 use Rattle.totals.specs.laws.Raised.{raised-long}
 use Rattle.totals.specs.declared.Record.{Record}
 use Rattle.bus.specs.Devices.{recordAt, withRecord}
-use Rattle.bus.specs.laws.Records.{lent, lent-is, given-back, record-back}
+use Rattle.bus.specs.laws.Records.{given-back, record-back}
 use Rattle.bus.specs.declared.Bus.{Bus}
-use Rattle.replay.specs.Time.{fits, takes, timeBelow}
+use Rattle.replay.specs.Time.{takes, timeBelow}
 use Rattle.replay.specs.laws.Time.{below-ahead}
 
 abbrev pub busOf : Phase → ℕ → List Device → List ℕ → List ℕ → Bus
@@ -93,10 +90,6 @@ module _ (ticks : DriverTicks) (r : Record) (driver : isDriver (r .device .chip)
 
   pub driver-waited : exceeds r (ticks .0) ≡ false → waitedFor r (Ticks ticks) ≡ timed ticks r
   driver-waited e = rw (driver, e)
-
--- the record at a position, its totals lent
-pub record-lent : (z : Device) (b : Bus) (i : ℕ) (l : length (b .lit) ≡ 128) (u : length (b .unlit) ≡ 128) (h : i < 8) → i < length (b .devices) → recordOf (getD (b .devices) i z) (lent (b .lit) i l h) (lent (b .unlit) i u h) ≡ recordAt b i
-record-lent z b i l u h k = rw (lent-is (b .lit) i l h, lent-is (b .unlit) i u h, getD-there z (fresh Pca9635 0) (b .devices) i k) refl
 
 -- all totals are as many as before
 pub totals-long : (ticks : DriverTicks) (m : Bus) (i : ℕ) (h : i < 8) (l : length (m .lit) ≡ 128) (u : length (m .unlit) ≡ 128) (d : Device) (p q : List ℕ) → recordOf d p q ≡ timed ticks (recordAt m i)

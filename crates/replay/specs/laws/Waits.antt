@@ -1,6 +1,6 @@
 -- The waits of an entry by hand: together they are the time, and each is accepted where the time fits.
 use mathlib.Core.Path.{_≡_, refl, sym, ap, _∙_}
-use mathlib.Core.Bool.{true, false, not, _&&_}
+use mathlib.Core.Bool.{true, false}
 use mathlib.Core.List.{List, [], _∷_, _++_, append-nil}
 use Prim.Native.Nat.{ℕ, zero, suc, _≤_, _<_}
 use native.Mathlib.Omega.{arith}
@@ -9,7 +9,7 @@ use Rattle.basics.specs.laws.Below.{below-at}
 use Rattle.basics.specs.laws.Logic.{holds, fails, tested}
 use Rattle.lamp.specs.declared.DriverTicks.{DriverTicks}
 use Rattle.chip.specs.Kinds.{isDriver}
-use Rattle.totals.specs.Wait.{exceeds, waited}
+use Rattle.totals.specs.Wait.{exceeds}
 use Rattle.refusals.specs.Refusals.{refuse, least, codeOf}
 use Rattle.refusals.specs.laws.Refusals.{code-both}
 use Rattle.bus.specs.Devices.{busOk, deviceAt, recordAt}
@@ -24,7 +24,7 @@ use Rattle.bus.specs.declared.Change.the-variants.{Wait}
 use Rattle.bus.specs.declared.Event.{Event}
 use Rattle.bus.specs.declared.Event.the-variants.{Change}
 use Rattle.bus.specs.declared.Reply.{Reply}
-use Rattle.replay.specs.Time.{fits, takes, overrunsAny, timeBelow}
+use Rattle.replay.specs.Time.{fits, overrunsAny, timeBelow}
 use Rattle.replay.specs.ByHand.{waitsBelow, AllAccepted, lastValue}
 use Rattle.replay.specs.laws.Time.{below-takes, below-stays, below-count, below-ahead}
 use Rattle.replay.specs.laws.Timed.{step-done}

@@ -1,7 +1,7 @@
 -- The bus that a recording leaves, line by line, and the row of its totals, number by number.
 use mathlib.Core.Path.{_≡_, refl, sym, ap, _∙_}
 use mathlib.Core.Bool.{Bool, true, _&&_, cond, and-true}
-use mathlib.Core.List.{List, [], _∷_, _++_, map}
+use mathlib.Core.List.{List, _∷_, _++_, map}
 use Prim.Native.Nat.{ℕ, suc, _+_, _-_, _*_, _/_, _%_, _≤_, _<_}
 use native.Mathlib.Numerals.{add-one}
 use native.Mathlib.Omega.{arith}
@@ -20,17 +20,16 @@ use Rattle.chip.specs.declared.Chip.the-variants.{Pca9635}
 use Rattle.device.specs.Reset.{fresh}
 use Rattle.device.specs.declared.Device.{Device}
 use Rattle.device.specs.declared.Phase.the-variants.{Idle}
-use Rattle.bus.specs.Devices.{recordAt, emptyBus}
+use Rattle.bus.specs.Devices.{emptyBus}
 use Rattle.bus.specs.declared.Bus.{Bus}
 use Rattle.replay.specs.Replay.{replayed, replayBus}
 use Rattle.replay.specs.declared.Clock.{Clock}
 use Rattle.replay.specs.declared.Clock.the-variants.{Unset}
-use Rattle.replay.specs.declared.Entry.{Entry}
 use Rattle.replay.specs.declared.Replayed.{Replayed}
 use Rattle.text.specs.Lines.{linesOf, endOf}
 use Rattle.text.specs.laws.Lines.{next-line}
 use Rattle.script.specs.Parser.{parsedEntry}
-use Rattle.script.specs.Totals.{recordedBus, totalAt, totalsAfter}
+use Rattle.script.specs.Totals.{recordedBus, totalAt}
 
 -- ---- line by line
 

@@ -1,6 +1,6 @@
 -- 16 totals, of which the first n have grown: what a loop over the outputs starts with, what a turn adds, what it ends with; and what stands at each.
 use mathlib.Core.Path.{_≡_, refl, sym, ap, _∙_}
-use mathlib.Core.Bool.{true, false, cond}
+use mathlib.Core.Bool.{cond}
 use mathlib.Core.List.{List}
 use Prim.Native.Nat.{ℕ, _+_, _≤_, _<_}
 use native.Mathlib.Nat.{add-zero}

@@ -1,15 +1,14 @@
 -- A wait, output by output: what each one's totals grow by, and that both together stay within the limit.
-use mathlib.Core.Path.{_≡_, refl, sym, ap, _∙_}
-use mathlib.Core.Bool.{Bool, true, false, not, _&&_, _||_, cond}
+use mathlib.Core.Path.{_≡_, refl, ap, _∙_}
+use mathlib.Core.Bool.{true, false, not, _&&_, cond}
 use mathlib.Core.List.{List}
 use Prim.Native.Nat.{ℕ, zero, suc, _+_, _-_, _≤_, _<_}
 use native.Mathlib.Omega.{arith}
 use lib.Dec.{leb, eqb}
 use lib.ListN.{length, getD}
-use borrow.Author.Tests.{leb-true, le-leb, not-false}
-use Rattle.basics.specs.Below.{allBelow}
-use Rattle.basics.specs.laws.Below.{below-at, below-all}
-use Rattle.basics.specs.laws.Logic.{tested, holds, fails, neither, and-left, and-right}
+use borrow.Author.Tests.{leb-true, not-false}
+use Rattle.basics.specs.laws.Below.{below-at}
+use Rattle.basics.specs.laws.Logic.{tested, holds, fails, neither}
 use Rattle.lamp.specs.declared.BlinkerSteps.{BlinkerSteps}
 use Rattle.chip.specs.Kinds.{isDriver}
 use Rattle.device.specs.Output.{lsOf, litOf}
@@ -17,8 +16,8 @@ use Rattle.device.specs.laws.Output.{litBy, blinker-lit}
 use Rattle.device.specs.declared.Device.{Device}
 use Rattle.lamp.specs.Duration.{amount}
 use Rattle.lamp.specs.declared.Duration.{Duration}
-use Rattle.device.specs.Wait.{isOwn, isTooLong, isTooLongFor, ownDuration}
-use Rattle.device.specs.laws.Wait.{own-is-own, own-amount, bare-overruns}
+use Rattle.device.specs.Wait.{isOwn, isTooLongFor, ownDuration}
+use Rattle.device.specs.laws.Wait.{own-is-own, own-amount}
 use Rattle.totals.specs.Totals.{totalLimit, totalsWithin, totalsFit, raised}
 use Rattle.totals.specs.Wait.{exceeds, waited, exceedsFor, waitedFor}
 use Rattle.totals.specs.laws.Raised.{raised-long, raised-past}

@@ -1,9 +1,8 @@
 -- The loop: the first i numbers are 0.
 use Prim.Native.Nat.{_-_, _≤_}
-use mathlib.Core.Path.{_≡_, refl, sym, _∙_}
+use mathlib.Core.Path.{_≡_, sym, _∙_}
 use mathlib.Core.List.{_++_}
 use lib.ListN.{length, drop, replicate}
-use native.Mathlib.Omega.{arith}
 use Rattle.bus.specs.laws.Records.{filled-none, filled-next, filled-all}
 use borrow.Author.Needs.{needs}
 use Rattle.bus.proofs.devices.clear.Statement.{statement}

@@ -1,5 +1,5 @@
 -- A part that is lent, cleared and given back.
-use mathlib.Core.Path.{refl, _∙_}
+use mathlib.Core.Path.{refl}
 use Rattle.bus.specs.laws.Records.{given-back}
 use borrow.Author.Needs.{needs}
 use Rattle.bus.proofs.devices.cleared.Statement.{statement}

@@ -3,17 +3,14 @@ use mathlib.Core.Path.{sym, _∙_}
 use Rattle.bus.specs.Devices.{recordAt}
 use Rattle.bus.specs.Place.{changeRefusals}
 use Rattle.bus.specs.Events.{stepReply, stepRefusals}
-use Rattle.bus.specs.laws.Place.{position-first, position-there, changes-above}
+use Rattle.bus.specs.laws.Place.{position-first, changes-above}
 use Rattle.bus.specs.laws.Replies.{turned-away}
 use borrow.Author.Needs.{needs}
 use Rattle.bus.proofs.place.change.Statement.{statement}
 use Rattle.bus.proofs.place.change.Tie as tie
 
 change-at-requires : tie.Need-change-at-requires
-change-at-requires c κs =
-    let p = c .before in
-    let z = sym (p .place-code .ensures) ∙ c .if1 .taken in
-    (position-there (p .before .args .bus) (p .before .args .dev) z .2, z)
+change-at-requires c κs = sym (c .before .place-code .ensures) ∙ c .if1 .taken
 
 returns-2 : tie.Need-returns-2
 unfolding stepReply stepRefusals

@@ -1,14 +1,14 @@
 -- The loop: the first i devices have taken the time.
 use Prim.Native.Nat.{_-_, _≤_}
-use mathlib.Core.Path.{_≡_, refl, sym, ap, _∙_}
+use mathlib.Core.Path.{_≡_, ap, _∙_}
 use mathlib.Core.Bool.{not}
 use lib.ListN.{length}
 use native.Mathlib.Omega.{arith}
 use Rattle.basics.specs.Below.{allBelow}
 use Rattle.bus.specs.Devices.{recordAt}
-use Rattle.bus.specs.laws.Records.{lent-is, lent-long}
+use Rattle.bus.specs.laws.Records.{lent-long, record-lent}
 use Rattle.replay.specs.Time.{fits, timeBelow}
-use Rattle.replay.specs.laws.Passed.{busOf, timed, time-none, time-more, room-none, room-more, as-before, record-lent, totals-long}
+use Rattle.replay.specs.laws.Passed.{busOf, timed, time-none, time-more, room-none, room-more, as-before, totals-long}
 use borrow.Author.Needs.{needs}
 use Rattle.replay.proofs.time.wait_all.Statement.{statement}
 use Rattle.replay.proofs.time.wait_all.Tie as tie

@@ -1,6 +1,6 @@
 -- The loop: the lines from here on lead to what all lines lead to.
 use Prim.Native.Nat.{_-_, _≤_}
-use mathlib.Core.Path.{_≡_, refl, sym, ap, _∙_}
+use mathlib.Core.Path.{_≡_, sym, _∙_}
 use mathlib.Core.Bool.{true}
 use lib.ListN.{length, drop, length-drop}
 use native.Mathlib.Omega.{arith}
@@ -8,7 +8,6 @@ use Rattle.text.specs.laws.Lines.{end-few}
 use Rattle.bus.specs.Devices.{busOk}
 use Rattle.bus.specs.Promises.{empty-well}
 use Rattle.replay.specs.Promises.{replay-shape}
-use Rattle.replay.specs.declared.Replayed.{Replayed}
 use Rattle.script.specs.Totals.{recordedBus}
 use Rattle.script.specs.laws.Totals.{ahead, ahead-all, ahead-next, ahead-none}
 use borrow.Author.Needs.{needs}

@@ -1,9 +1,8 @@
 -- A row that is too short stays; any other takes the totals of the bus that the log leaves.
-use mathlib.Core.Path.{refl, sym, ap, _∙_}
+use mathlib.Core.Path.{refl, _∙_}
 use lib.ListN.{length}
 use borrow.Author.Tests.{lt-ltb, le-ltb}
-use Rattle.bus.specs.declared.Bus.{Bus}
-use Rattle.script.specs.Totals.{totalAt, totalsAfter}
+use Rattle.script.specs.Totals.{totalsAfter}
 use Rattle.script.specs.laws.Totals.{parts-alike}
 use borrow.Author.Needs.{needs}
 use Rattle.script.proofs.recording.totals_log.Statement.{statement}

@@ -1,12 +1,9 @@
 -- The loop: the totals of the first i outputs leave room.
-use Prim.Native.Nat.{ℕ, _+_, _-_, _≤_}
+use Prim.Native.Nat.{_-_, _≤_}
 use mathlib.Core.Path.{_≡_, sym, _∙_}
 use mathlib.Core.Bool.{true}
-use mathlib.Core.List.{List}
-use lib.Dec.{leb}
-use lib.ListN.{getD}
 use Rattle.basics.specs.laws.Below.{below-none, below-more, below-done, below-fails}
-use Rattle.totals.specs.Totals.{totalLimit, totalsWithin}
+use Rattle.totals.specs.Totals.{totalsWithin}
 use borrow.Author.Needs.{needs}
 use Rattle.totals.proofs.limits.all_within.Statement.{statement}
 use Rattle.totals.proofs.limits.all_within.Tie as tie

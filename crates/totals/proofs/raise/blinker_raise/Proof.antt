@@ -1,13 +1,12 @@
 -- The loop: the totals of the first i outputs have grown, each by what its LS bits give it.
-use Prim.Native.Nat.{ℕ, _+_, _-_, _≤_, _<_}
-use mathlib.Core.Path.{_≡_, sym, ap, _∙_}
-use native.Mathlib.Omega.{arith}
+use Prim.Native.Nat.{_+_, _-_, _≤_}
+use mathlib.Core.Path.{_≡_, sym, _∙_}
 use lib.ListN.{length, getD}
 use Rattle.chip.specs.Kinds.{outputsOf}
 use Rattle.device.specs.Output.{litOf}
 use Rattle.device.specs.laws.Output.{lit-few}
 use Rattle.totals.specs.Totals.{raised}
-use Rattle.totals.specs.laws.Raised.{raised-long, raised-none, raised-more, raised-done}
+use Rattle.totals.specs.laws.Raised.{raised-none, raised-more, raised-done}
 use Rattle.totals.specs.laws.Wait.{lits-give, room-now}
 use borrow.Author.Needs.{needs}
 use Rattle.totals.proofs.raise.blinker_raise.Statement.{statement}

@@ -1,7 +1,6 @@
 -- `totals::raise::lit_by` meets its contract.
 use mathlib.Core.Path.{ap}
 use Prim.Native.Nat.{ℕ}
-use Rattle.lamp.specs.declared.BlinkerSteps.{BlinkerSteps}
 use borrow.Author.Needs.{needs}
 use Rattle.totals.proofs.raise.lit_by.Statement.{statement}
 use Rattle.totals.proofs.raise.lit_by.Tie as tie

@@ -1,5 +1,5 @@
 -- `totals::raise::wait` meets its contract: in the own unit, device and totals; in the other nothing.
-use mathlib.Core.Path.{sym, ap, _∙_}
+use mathlib.Core.Path.{sym, _∙_}
 use borrow.Author.Tests.{not-true}
 use Rattle.totals.specs.Totals.{recordOf}
 use Rattle.totals.specs.Wait.{waited}
