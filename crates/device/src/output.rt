@@ -27,15 +27,7 @@ pub fn pair(byte: u8, out: u8) -> u8
     ensures { λ r. ⌜ r ≡ pairOf byte out ⌝ }
 {
     let place = out % 4;
-    if place == 0 {
-        byte % 4
-    } else if place == 1 {
-        byte / 4 % 4
-    } else if place == 2 {
-        byte / 16 % 4
-    } else {
-        byte / 64 % 4
-    }
+    (byte >> (2 * place)) % 4
 }
 
 fn ledout_of(d: Device, out: u8) -> u8

@@ -7,7 +7,7 @@ ghost use Rattle.lamp.specs.Driver.{grouped};
 ghost use Rattle.lamp.specs.Blinker.{litBelow};
 ghost use Rattle.lamp.specs.laws.Count.{dutyCount};
 
-fn least(a: u64, b: u64) -> u64
+pub fn least(a: u64, b: u64) -> u64
     ensures { λ r. ⌜ r ≡ min a b ⌝ }
 {
     if a < b { a } else { b }

@@ -3,6 +3,7 @@ mod blinker;
 mod count;
 mod driver;
 mod outputs;
+pub mod proved_callers;
 mod window;
 
 pub use blinker::blinker_lit;
@@ -11,7 +12,6 @@ pub use driver::driver_lit;
 pub use driver::driver_lit_ticks;
 pub use driver::driver_mode;
 pub use outputs::driver_shared;
-pub use outputs::shared_lit;
 pub use window::LIMIT;
 pub use window::blinker_within;
 pub use window::driver_within;
@@ -52,17 +52,18 @@ pub struct Group {
     pub on: u64,
 }
 
-// The ticks from one count up to another.
+// The ticks from one count up to another, by 256s: the whole ones from end to end, and what is left at either end.
 pub struct Stretch {
-    pub from: u64,
-    pub end: u64,
+    pub whole: u64,
+    pub first: u64,
+    pub last: u64,
 }
 
-// What a driver's outputs share over a wait of so many ticks: of all ticks and of those at which the group test holds, a stretch each.
-// Awake that is the wait; asleep it is the present tick, which stands for all of them.
+// What a driver's outputs share over a wait: the lit ticks of one that is on, and a stretch each of all ticks and of those at which the
+// group test holds. Awake that is the wait; asleep it is the present tick, which stands for all of them: each of its ticks is so many.
 pub struct Shared {
-    pub awake: bool,
-    pub ticks: u64,
+    pub on: u64,
+    pub each: u64,
     pub all: Stretch,
     pub group: Stretch,
 }

@@ -19,10 +19,10 @@ const TOTAL_LIMIT: u64 = 72057594037927936;
 fn within_total(lit: u64, unlit: u64, more: u64) -> bool
     ensures { λ r. ⌜ r ≡ leb (lit + unlit + more) totalLimit ⌝ }
 {
-    if lit <= TOTAL_LIMIT {
-        let room = TOTAL_LIMIT - lit;
-        if unlit <= room {
-            more <= room - unlit
+    if more <= TOTAL_LIMIT {
+        let room = TOTAL_LIMIT - more;
+        if lit <= room {
+            unlit <= room - lit
         } else {
             false
         }

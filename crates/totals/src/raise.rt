@@ -5,6 +5,7 @@ use device::Device;
 use lamp::BlinkerSteps;
 use lamp::DriverTicks;
 use lamp::Duration;
+use lamp::proved_callers::shared_lit;
 ghost use mathlib.Core.Path.{_≡_};
 ghost use mathlib.Core.Bool.{true, false};
 ghost use Prim.Native.Nat.{_-_};
@@ -28,7 +29,7 @@ fn driver_raise(d: Device, ticks: DriverTicks, lit: &mut [u64], unlit: &mut [u64
     let ledout0 = map.ledout0 as usize;
     for i in 0..outputs(chip) {
         let ledout = device::output::pair(d.effective[ledout0 + i / 4], i as u8);
-        let x = lamp::shared_lit(ledout, d.effective[chip::PWM0 as usize + i], shared);
+        let x = shared_lit(ledout, d.effective[chip::PWM0 as usize + i], shared);
         let on = units::driver_sum(DriverTicks(lit[i]), x);
         let off = units::driver_sum(DriverTicks(unlit[i]), units::driver_rest(ticks, x));
         lit[i] = on.0;

@@ -2,7 +2,7 @@
 use mathlib.Core.Path.{_≡_, refl, sym, ap, _∙_}
 use mathlib.Core.Bool.{true, false, false≢true}
 use mathlib.Core.List.{List}
-use Prim.Native.Nat.{ℕ, _+_, _/_, _≤_, _<_}
+use Prim.Native.Nat.{ℕ, _+_, _/_, _^_, _≤_, _<_}
 use native.Mathlib.Omega.{arith}
 use lib.ListN.{getD}
 use borrow.Author.Tests.{le-leb, lt-ltb}
@@ -10,7 +10,7 @@ use Rattle.basics.specs.laws.Logic.{tested, holds, fails}
 use Rattle.lamp.specs.Window.{countedTicks}
 use Rattle.lamp.specs.Blinker.{blinkerLit}
 use Rattle.lamp.specs.laws.Count.{counted-few}
-use Rattle.lamp.specs.laws.Shared.{groupOf, sharedOf, sharedLit, awake-lit, asleep-lit}
+use Rattle.lamp.specs.laws.Shared.{groupOf, sharedOf, Fits, sharedLit, awake-lit, asleep-lit, shared-fits}
 use Rattle.lamp.specs.declared.Shared.{Shared}
 use Rattle.chip.specs.Kinds.{isDriver, outputsOf}
 use Rattle.chip.specs.Registers.{pwm0, grppwm, grpfreq, ledout0, isBuffered}
@@ -48,6 +48,10 @@ shared-lit d out w e hM hN =
       | holds a ↦ rw (a, e) (awake-lit (ledoutOf d n out) (isBlinking d) (inEffect d (pwm0 + out)) (grppwmOf d) (inEffect d (grpfreq n)) (d .count) w hM hN)
       | fails a ↦ rw (a, e) (asleep-lit (ledoutOf d n out) (isBlinking d) (inEffect d (pwm0 + out)) (grppwmOf d) (inEffect d (grpfreq n)) (d .count) w hM hN)
     ]
+
+-- and it fits
+pub driver-fits : (d : Device) (w ledout : ℕ) → grppwmOf d < 256 → w < 2 ^ 64 → Fits ledout (driverShared d w)
+driver-fits d w ledout hM = shared-fits (isAwake d) (isBlinking d) ledout (grppwmOf d) (inEffect d (grpfreq (outputsOf (d .chip)))) (d .count) w hM
 
 -- LEDOUT and PWM of an output have a copy in effect
 buffered : (chip : Chip) (out : ℕ) → isDriver chip ≡ true → out < outputsOf chip → (isBuffered chip (ledout0 (outputsOf chip) + out / 4) ≡ true) × (isBuffered chip (pwm0 + out) ≡ true)

@@ -1,22 +1,20 @@
 -- `device::output::pair` meets its contract: the place of the output among four says the power of 4.
-use mathlib.Core.Path.{_≡_}
-use Prim.Native.Nat.{_%_}
+use mathlib.Core.Path.{_≡_, refl}
+use Prim.Native.Nat.{ℕ, zero, suc, _*_, _%_, _^_, _<_}
 use native.Mathlib.Omega.{arith}
-use native.Mathlib.Nat.{div-one}
+use borrow.Author.Needs.{needs}
 use Rattle.device.proofs.output.pair.Statement.{statement}
 use Rattle.device.proofs.output.pair.Tie as tie
 
+two-bits : (k : ℕ) → k < 4 → 2 ^ (2 * k) ≡ 4 ^ k
+two-bits zero h = refl
+two-bits (suc zero) h = refl
+two-bits (suc (suc zero)) h = refl
+two-bits (suc (suc (suc zero))) h = refl
+two-bits (suc (suc (suc (suc k)))) h = absurd (omega arith)
+
 returns : tie.Need-returns
-returns c = simp (c .if1 .taken, div-one)
-
-returns-2 : tie.Need-returns-2
-returns-2 c = simp (c .if2 .taken)
-
-returns-3 : tie.Need-returns-3
-returns-3 c = simp (c .if3 .taken)
-
-returns-4 : tie.Need-returns-4
-returns-4 c = let e : c .before .before .before .args .out % 4 ≡ 3 = omega arith in simp e
+returns c = rw (two-bits (c .args .out % 4) (omega arith))
 
 pub pair-spec : {M : Type 1} → statement M
-pair-spec = tie.close (tie.spec returns returns-2 returns-3 returns-4)
+pair-spec = tie.close (tie.spec (λ c. search needs) (λ c. search needs) returns)

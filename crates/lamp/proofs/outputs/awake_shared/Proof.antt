@@ -13,11 +13,24 @@ add-end c =
 
 returns : tie.Need-returns
 returns c =
-    let t = c .before .before .before .before in
-    rw (sym (t .before .driver-within .ensures) ∙ t .if1 .taken, c .before .duty .ensures, c .duty2 .ensures)
+    let g = c .before in
+    let d = g .before in
+    let t = d .before .before .before .before in
+    rw (sym (t .before .driver-within .ensures) ∙ t .if1 .taken, c .between2 .ensures, g .between .ensures, d .duty2 .ensures, d .before .duty .ensures)
 
 returns-2 : tie.Need-returns-2
-returns-2 c = rw (sym (c .before .driver-within .ensures) ∙ c .if1 .left)
+returns-2 c = rw (sym (c .before .before .driver-within .ensures) ∙ c .before .if1 .left, c .between3 .ensures)
 
 pub awake-shared-spec : {M : Type 1} → statement M
-awake-shared-spec = tie.close (tie.spec (λ c κs. search needs) add-end (λ c κs. search needs) (λ c κs. search needs) returns returns-2)
+awake-shared-spec =
+    tie.close
+    (tie.spec
+    (λ c κs. search needs)
+    add-end
+    (λ c κs. search needs)
+    (λ c κs. search needs)
+    (λ c κs. search needs)
+    (λ c κs. search needs)
+    (λ c κs. search needs)
+    returns
+    returns-2)

@@ -11,9 +11,9 @@ use Rattle.totals.proofs.limits.within_total.Tie as tie
 returns : tie.Need-returns
 returns c =
     let a = c .before .before .args in
-    let q : a .more + (a .lit + a .unlit) ≡ a .lit + a .unlit + a .more = omega arith in
-    let p : totalLimit - a .lit - a .unlit ≡ totalLimit - (a .lit + a .unlit) = omega arith in
-    rw (p, moved (a .more) (a .lit + a .unlit) totalLimit (omega arith), q) refl
+    let q : a .unlit + (a .more + a .lit) ≡ a .lit + a .unlit + a .more = omega arith in
+    let p : totalLimit - a .more - a .lit ≡ totalLimit - (a .more + a .lit) = omega arith in
+    rw (p, moved (a .unlit) (a .more + a .lit) totalLimit (omega arith), q) refl
 
 returns-2 : tie.Need-returns-2
 returns-2 c = let a = c .before .before .args in sym (lt-leb (a .lit + a .unlit + a .more) totalLimit (omega arith))

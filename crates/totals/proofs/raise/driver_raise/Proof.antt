@@ -1,11 +1,12 @@
 -- The loop: the totals of the first i outputs have grown, each by what the shared counts give it.
 use Prim.Native.Nat.{_+_, _-_, _≤_, _<_}
-use mathlib.Core.Path.{_≡_, sym, ap, _∙_}
+use mathlib.Core.Path.{_≡_, sym, ap, subst, _∙_}
 use native.Mathlib.Omega.{arith}
 use lib.ListN.{length, getD}
+use Rattle.lamp.specs.laws.Shared.{Fits}
 use Rattle.chip.specs.Kinds.{outputsOf}
 use Rattle.device.specs.Output.{litOf}
-use Rattle.device.specs.laws.Output.{shared-gives, lit-few}
+use Rattle.device.specs.laws.Output.{driver-fits, shared-gives, lit-few}
 use Rattle.totals.specs.Totals.{raised}
 use Rattle.totals.specs.laws.Raised.{raised-none, raised-more, raised-done}
 use Rattle.totals.specs.laws.Wait.{room-now}
@@ -38,6 +39,13 @@ few-now c =
     let x = lit-now c in
     let few = lit-few (entry c .args .t1) (turn c .loop .i) (entry c .args .ticks .0) in
     omega arith
+
+-- and what its counts are made of fits
+shared-lit-requires : tie.Need-shared-lit-requires Inv-loop μ-loop
+shared-lit-requires c κs =
+    let made = c .before .before .before .before .before .before .before .before in
+    let a = made .before .before .before .args in
+    subst (Fits (c .before .pair .result)) (sym (made .driver-shared .ensures .0)) (driver-fits (a .t1) (a .ticks .0) (c .before .pair .result) (made .driver-shared .ensures .1) (omega arith))
 
 loop-holds : tie.Need-loop-holds Inv-loop μ-loop
 loop-holds c =
@@ -98,7 +106,7 @@ driver-raise-spec =
     (λ c. search needs)
     (λ c. search needs)
     (λ c. search needs)
-    (λ c κs. search needs)
+    shared-lit-requires
     (λ c. search needs)
     (λ c. search needs)
     driver-sum-requires
