@@ -190,8 +190,8 @@ fn time_replays(runs: usize) {
     );
     println!("the time of one line with each, the time of one board's wait, and over the model's");
     for setting in wait::SETTINGS {
-        let [one, all] =
-            wait::BOARDS.map(|boards| timing::time_replay(&wait::recording(setting, boards), runs));
+        let logs = wait::BOARDS.map(|boards| wait::recording(setting, boards));
+        let [one, all] = timing::time_replays(&logs, runs);
         let times = |one: &LineTime, all: &LineTime| {
             let [one, all] = [one, all].map(LineTime::nanoseconds_a_line);
             (one, all, (all - one) / (many - few) as f64)

@@ -161,12 +161,33 @@ pub struct ReplayTimes {
     pub library: LineTime,
 }
 
-pub fn time_replay(log: &Log, runs: usize) -> ReplayTimes {
-    let [whole, rest] = [&log.whole, &log.rest].map(|part| time(Sort::Stamped, part, runs));
-    let lines = log.lines();
-    let of = |whole, rest| LineTime { whole, rest, lines };
-    ReplayTimes {
-        model: of(whole.model, rest.model),
-        library: of(whole.library, rest.library),
+/// Runs both in turn on two recordings and on the rests of them, so that what
+/// the one takes more than the other is not the machine's.
+pub fn time_replays(logs: &[Log; 2], runs: usize) -> [ReplayTimes; 2] {
+    let parts = [&logs[0].whole, &logs[0].rest, &logs[1].whole, &logs[1].rest];
+    let model = |log: &[u8]| Sort::Stamped.model(log);
+    let library = |log: &[u8]| Sort::Stamped.library(log);
+    for part in parts {
+        assert!(model(part) == library(part), "the answers differ");
     }
+    let mut models: [Vec<Duration>; 4] = Default::default();
+    let mut libraries: [Vec<Duration>; 4] = Default::default();
+    for _ in 0..runs {
+        for (place, part) in parts.iter().enumerate() {
+            models[place].push(elapsed(|| model(part)));
+            libraries[place].push(elapsed(|| library(part)));
+        }
+    }
+    let [models, libraries] = [models, libraries].map(|times| times.map(median));
+    [0, 1].map(|log| {
+        let of = |times: &[Duration; 4]| LineTime {
+            whole: times[2 * log],
+            rest: times[2 * log + 1],
+            lines: logs[log].lines(),
+        };
+        ReplayTimes {
+            model: of(&models),
+            library: of(&libraries),
+        }
+    })
 }
