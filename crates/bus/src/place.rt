@@ -12,8 +12,9 @@ ghost use lib.Dec.{eqb};
 ghost use Rattle.refusals.specs.Refusals.{codeOf};
 ghost use Rattle.bus.specs.declared.Change.the-variants as C;
 ghost use Rattle.bus.specs.declared.Event.the-variants as E;
-ghost use Rattle.bus.specs.Devices.{busOk};
+ghost use Rattle.bus.specs.Devices.{busOk, withDevice};
 ghost use Rattle.bus.specs.Place.{placeRefusals, levelRefusals, isMissing, questionRefusals, valueOf, blinkRefusals, blinkReply};
+ghost use Rattle.bus.specs.Replies.{refusedWith, doneWith};
 ghost use Rattle.bus.specs.Events.{stepReply};
 
 pub fn place_code(ok: bool, bus: Bus, dev: u64) -> u64
@@ -30,37 +31,18 @@ fn level_code(most: u64, level: u64, wrong: bool) -> u64
     or_refused(or_refused(0, 7, most < level), 10, wrong)
 }
 
-fn oe_at(bus: Bus, dev: u64, level: u64) -> Reply
-    requires { ⌜ codeOf (placeRefusals bus dev) ≡ 0 ⌝ }
-    ensures { λ r. ⌜ r ≡ stepReply bus (E.Change dev (C.Oe level)) ⌝ }
+// By its code, a change that is no wait: the bus with the device that it makes, whose totals stay.
+fn placed(bus: Bus, dev: u64, code: u64, d: Device) -> Reply
+    ensures { λ r. ⌜ r ≡ cond (eqb code 0) (doneWith 0 (withDevice bus dev d)) (refusedWith bus code) ⌝ }
 {
-    let d = crate::devices::device_at(bus, dev);
-    let chip = d.chip;
-    let code = level_code(1, level, !chip::is_driver(chip));
     if code == 0 {
-        let after = device::with_oe(d, level == 1);
-        crate::done(0, crate::devices::with_device(bus, dev, after))
+        crate::done(0, crate::devices::with_device(bus, dev, d))
     } else {
         crate::refused(bus, code)
     }
 }
 
-fn ext_at(bus: Bus, dev: u64, level: u64) -> Reply
-    requires { ⌜ codeOf (placeRefusals bus dev) ≡ 0 ⌝ }
-    ensures { λ r. ⌜ r ≡ stepReply bus (E.Change dev (C.Ext level)) ⌝ }
-{
-    let d = crate::devices::device_at(bus, dev);
-    let chip = d.chip;
-    let code = level_code(255, level, chip::is_driver(chip));
-    if code == 0 {
-        let after = device::with_levels(d, level as u8);
-        crate::done(0, crate::devices::with_device(bus, dev, after))
-    } else {
-        crate::refused(bus, code)
-    }
-}
-
-// At a position that has no number of its own. Only a wait touches the totals.
+// At a position that has no number of its own.
 fn change_at(bus: Bus, dev: u64, change: Change) -> Reply
     requires { ⌜ codeOf (placeRefusals bus dev) ≡ 0 ⌝ }
     ensures { λ r. ⌜ r ≡ stepReply bus (E.Change dev change) ⌝ }
@@ -71,12 +53,15 @@ fn change_at(bus: Bus, dev: u64, change: Change) -> Reply
         Change::Wait(ticks) => {
             crate::units::wait_at(bus, dev as usize, device::wait::own_duration(chip, ticks))
         }
-        Change::Oe(level) => oe_at(bus, dev, level),
-        Change::Ext(level) => ext_at(bus, dev, level),
-        Change::Reset => {
-            let after = device::after_reset(d);
-            crate::done(0, crate::devices::with_device(bus, dev, after))
+        Change::Oe(level) => {
+            let code = level_code(1, level, !chip::is_driver(chip));
+            placed(bus, dev, code, device::with_oe(d, level == 1))
         }
+        Change::Ext(level) => {
+            let code = level_code(255, level, chip::is_driver(chip));
+            placed(bus, dev, code, device::with_levels(d, (level % 256) as u8))
+        }
+        Change::Reset => placed(bus, dev, 0, device::after_reset(d)),
     }
 }
 

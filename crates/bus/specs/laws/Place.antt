@@ -2,11 +2,11 @@
 use mathlib.Core.Path.{_≡_, refl, sym}
 use mathlib.Core.Bool.{Bool, true, false, cond}
 use mathlib.Core.List.{List, _++_}
-use Prim.Native.Nat.{ℕ, _≤_, _<_}
+use Prim.Native.Nat.{ℕ, _%_, _≤_, _<_}
 use native.Mathlib.Omega.{arith}
 use lib.Dec.{ltb, eqb}
 use lib.ListN.{length}
-use borrow.Author.Tests.{leb-false, lt-ltb, ltb-true, ltb-false, not-false}
+use borrow.Author.Tests.{eqb-true, eqb-false, leb-false, lt-ltb, ltb-true, ltb-false, not-false}
 use Rattle.basics.specs.laws.Logic.{holds, fails, tested, and-right}
 use Rattle.chip.specs.Kinds.{outputsOf}
 use Rattle.chip.specs.laws.Registers.{outputs-few}
@@ -73,19 +73,20 @@ pub device-answers : (b : Bus) (dev : ℕ) (q : Question) (d : Device) (k v : �
 unfolding stepReply stepRefusals stepDone
 device-answers b dev q d k v z e p w = answer-is _ _ _ _ _ (placed-code b dev k (questionRefusals (deviceAt b dev) q) z (rw (← e) p)) (rw (← e) w)
 
--- a level that is not refused is at most the largest
-pub level-few : (most level : ℕ) (wrong : Bool) → codeOf (levelRefusals most level wrong) ≡ 0 → level ≤ most
-level-few most level wrong z = ltb-false most level (accepted (levelRefusals most level wrong) refl z .0)
+-- outside levels that are not refused are a byte
+pub levels-byte : (level : ℕ) (wrong : Bool) → codeOf (levelRefusals 255 level wrong) ≡ 0 → level % 256 ≡ level
+levels-byte level wrong z = omega (arith, ltb-false 255 level (accepted (levelRefusals 255 level wrong) refl z .0))
 
--- a change that is no wait, at a position that has no number: done, it leaves the totals
-module _ (b : Bus) (dev k : ℕ) (c : Change) (free : codeOf (placeRefusals b dev) ≡ 0) (code : k ≡ codeOf (changeRefusals (recordAt b dev) c)) where
-  pub changed-there : (d : Device) → length (b .lit) ≡ 128 → length (b .unlit) ≡ 128 → afterChange (recordAt b dev) c ≡ withChip (recordAt b dev) d → k ≡ 0 → doneWith 0 (withDevice b dev d) ≡ stepReply b (E.Change dev c)
-  unfolding stepReply stepRefusals stepDone
-  changed-there d l u e z = answered _ _ _ _ k (placed-code b dev k (changeRefusals (recordAt b dev) c) free code) z (rw (e, with-device-is b dev d l u) refl)
-
-  pub refused-there : (k ≡ 0 → ⊥) → refusedWith b k ≡ stepReply b (E.Change dev c)
-  unfolding stepReply stepRefusals
-  refused-there n = turned-away _ _ _ _ k (placed-code b dev k (changeRefusals (recordAt b dev) c) free code) n refl
+-- a change that is no wait, at a position that has no number: by its code it is done, and leaves the totals, or refused
+pub placed-is : (b : Bus) (dev k : ℕ) (c : Change) (d : Device) → codeOf (placeRefusals b dev) ≡ 0 → k ≡ codeOf (changeRefusals (recordAt b dev) c) → length (b .lit) ≡ 128 → length (b .unlit) ≡ 128 → (k ≡ 0 → afterChange (recordAt b dev) c ≡ withChip (recordAt b dev) d)
+    → cond (eqb k 0) (doneWith 0 (withDevice b dev d)) (refusedWith b k) ≡ stepReply b (E.Change dev c)
+unfolding stepReply stepRefusals stepDone
+placed-is b dev k c d free code l u after =
+    let own = placed-code b dev k (changeRefusals (recordAt b dev) c) free code in
+    elim (tested (eqb k 0)) [
+      | holds t ↦ let z = eqb-true k 0 t in rw t (answered _ _ _ _ k own z (rw (after z, with-device-is b dev d l u) refl))
+      | fails t ↦ rw t (turned-away _ _ _ _ k own (eqb-false k 0 t) refl)
+    ]
 
 module _ (d : Device) where
   pub output-byte : (out : ℕ) → isMissing d out ≡ false → out < 256

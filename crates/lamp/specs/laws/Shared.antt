@@ -88,7 +88,7 @@ module _ (dmblnk : Bool) (M G : ℕ) (h : M < 256) where
 
 -- ---- stretches
 
-pub between-sound : (from end : ℕ) → from ≤ end → end ≤ countLimit → Sound (between from end)
+between-sound : (from end : ℕ) → from ≤ end → end ≤ countLimit → Sound (between from end)
 between-sound from end h k = (omega arith, omega arith)
 
 single-sound : (place n : ℕ) → Sound (single place n)

@@ -1,10 +1,10 @@
 -- A wait is that for the duration in the own unit; the others leave the totals.
-use mathlib.Core.Path.{_≡_, refl, ap, _∙_}
+use mathlib.Core.Path.{_≡_, refl, sym, ap, _∙_}
 use lib.ListN.{length}
 use Rattle.basics.specs.laws.Lists.{as-long}
 use Rattle.device.specs.laws.Wait.{own-is-own, own-amount}
 use Rattle.bus.specs.Place.{changeRefusals, afterChange}
-use Rattle.bus.specs.laws.Place.{position-there, changed-there}
+use Rattle.bus.specs.laws.Place.{position-there, levels-byte, placed-is}
 use Rattle.refusals.specs.Refusals.{codeOf}
 use Rattle.bus.specs.Devices.{deviceAt}
 use Rattle.bus.specs.Units.{waitForReply}
@@ -32,19 +32,35 @@ returns c =
     rw (o .before .before .change .given .1) (c .wait-at .ensures ∙ ap (waitForReply (a .bus) (a .dev)) own ∙ own-wait (a .bus) (a .dev) _ (own-is-own (deviceAt (a .bus) (a .dev) .chip) _) ∙ ap (waitReply (a .bus) (a .dev)) (own-amount (deviceAt (a .bus) (a .dev) .chip) _))
 
 returns-2 : tie.Need-returns-2
-returns-2 c = rw (c .before .before .change2 .given .1) (c .oe-at .ensures)
+unfolding changeRefusals afterChange
+returns-2 c =
+    let k = c .before .before in
+    let i = k .before in
+    let there = i .before .before .before .before in
+    let st = there .before in
+    let code = rw (i .is-driver .ensures, there .device-at .ensures) at (k .level-code .ensures) in
+    rw (i .before .before .change2 .given .1)
+    (c .placed .ensures ∙ placed-is _ _ _ _ _ (st .pre) code (lit-long st) (unlit-long st) (λ z. rw (c .before .with-oe .ensures, there .device-at .ensures) refl))
 
 returns-3 : tie.Need-returns-3
-returns-3 c = rw (c .before .before .change3 .given .1) (c .ext-at .ensures)
+unfolding changeRefusals afterChange
+returns-3 c =
+    let k = c .before .before in
+    let i = k .before in
+    let there = i .before .before .before .before in
+    let st = there .before in
+    let code = rw (i .is-driver2 .ensures, there .device-at .ensures) at (k .level-code2 .ensures) in
+    rw (i .before .before .change3 .given .1)
+    (c .placed2 .ensures ∙ placed-is _ _ _ _ _ (st .pre) code (lit-long st) (unlit-long st) (λ z. rw (c .before .with-levels .ensures, there .device-at .ensures, levels-byte (i .before .before .change3 .given .0 .0) (i .is-driver2 .result) (sym (k .level-code2 .ensures) ∙ z)) refl))
 
 returns-4 : tie.Need-returns-4
 unfolding changeRefusals afterChange codeOf
 returns-4 c =
-    let there = c .before .before .before .before .before in
+    let r = c .before in
+    let there = r .before .before .before in
     let st = there .before in
-    let told = c .before .before .before .enum-told .given .1 in
-    rw (c .done .ensures, c .before .with-device .ensures)
-    (changed-there _ _ 0 _ (st .pre) (rw told refl) _ (lit-long st) (unlit-long st) (rw (told, c .before .before .after-reset .ensures, there .device-at .ensures) refl) refl)
+    rw (r .before .enum-told .given .1)
+    (c .placed3 .ensures ∙ placed-is _ _ _ _ _ (st .pre) refl (lit-long st) (unlit-long st) (λ z. rw (r .after-reset .ensures, there .device-at .ensures) refl))
 
 pub change-at-spec : {M : Type 1} → statement M
 change-at-spec =
@@ -56,10 +72,16 @@ change-at-spec =
     wait-at-requires
     (λ c. search needs)
     (λ c κs. search needs)
-    (λ c. search needs)
+    (λ c κs. search needs)
+    (λ c κs. search needs)
     (λ c κs. search needs)
     (λ c. search needs)
     (λ c κs. search needs)
+    (λ c κs. search needs)
+    (λ c. search needs)
+    (λ c κs. search needs)
+    (λ c κs. search needs)
+    (λ c. search needs)
     (λ c κs. search needs)
     (λ c κs. search needs)
     returns
