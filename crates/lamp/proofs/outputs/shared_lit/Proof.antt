@@ -1,8 +1,8 @@
 -- `lamp::outputs::shared_lit` meets its contract.
-use mathlib.Core.Path.{_≡_, sym, _∙_}
+use mathlib.Core.Path.{_≡_, sym}
 use Prim.Native.Nat.{_*_}
 use native.Mathlib.Omega.{arith}
-use Rattle.lamp.specs.laws.Shared.{stretchOf, litOn, sharedLit, by-brightness}
+use Rattle.lamp.specs.laws.Shared.{sharedLit, by-brightness}
 use borrow.Author.Needs.{needs}
 use Rattle.lamp.proofs.outputs.shared_lit.Statement.{statement}
 use Rattle.lamp.proofs.outputs.shared_lit.Tie as tie
