@@ -4,5 +4,6 @@ pub mod Records
 pub mod Replies
 pub mod Runs
 pub mod Signals
+pub mod Steps
 pub mod Units
 pub mod WellFormed

@@ -25,6 +25,7 @@ use Rattle.bus.specs.Events.{stepReply, stepRefusals, stepDone, runBus, waitRep
 use Rattle.bus.specs.Signals.{signalValue}
 use Rattle.bus.specs.Add.{isUnknown, addedTo}
 use Rattle.bus.specs.Promises.{step-code, refused-same, step-well}
+use Rattle.bus.specs.laws.Steps.{done, step-stands, added-there}
 use Rattle.bus.specs.laws.WellFormed.{at-fits}
 use Rattle.bus.specs.laws.Records.{nought}
 use Rattle.bus.specs.declared.Event.the-variants as E
@@ -34,19 +35,17 @@ use Rattle.bus.specs.declared.Change.{Change}
 use Rattle.bus.specs.declared.Change.the-variants as C
 use Rattle.bus.specs.declared.Bus.{Bus}
 use Rattle.bus.specs.declared.Event.{Event}
-use Rattle.bus.specs.declared.Reply.{Reply}
 use Rattle.replay.specs.Time.{since, afterTime}
 use Rattle.replay.specs.Replay.{replayed, replayBus}
 use Rattle.replay.specs.ByHand.{allByHand, flat}
-use Rattle.replay.specs.Promises.{replay-accepted, replay-event, replay-shape, recording-by-hand}
+use Rattle.replay.specs.Promises.{replay-event, replay-bus, replay-on, replay-shape, recording-by-hand}
 use Rattle.replay.specs.laws.Alike.{time-count}
 use Rattle.replay.specs.declared.Clock.{Clock}
 use Rattle.replay.specs.declared.Clock.the-variants.{At}
 use Rattle.replay.specs.declared.Entry.{Entry}
 use Rattle.replay.specs.declared.Entry.the-variants.{Stamped}
-use Rattle.replay.specs.declared.Replayed.{Replayed}
 use Rattle.history.specs.History.{litTotal, unlitTotal, waitShare, waitSum, litSum, restSum, isWaiting, isWait, isWaitAt, withTotals}
-use Rattle.history.specs.laws.Step.{done, lit-answer, lit-few-answered, step-adds, step-stands, step-same}
+use Rattle.history.specs.laws.Step.{lit-answer, lit-few-answered, step-adds, step-same}
 
 -- ---- any sequence of events
 
@@ -56,7 +55,7 @@ module _ (dev out : ℕ) where
   unfolding litSum
   lit-history b [] h there k = omega arith
   lit-history b (e ∷ l) h there k =
-      let s = step-stands b dev out h there e in
+      let s = step-stands b dev h there e in
       let on = lit-history (stepReply b e .bus) l (step-well b e h) (s .0) (rw (s .1) k) in
       omega (arith, on, step-adds b dev out h there k e .0)
 
@@ -64,7 +63,7 @@ module _ (dev out : ℕ) where
   unfolding restSum
   unlit-history b [] h there k = omega arith
   unlit-history b (e ∷ l) h there k =
-      let s = step-stands b dev out h there e in
+      let s = step-stands b dev h there e in
       let on = unlit-history (stepReply b e .bus) l (step-well b e h) (s .0) (rw (s .1) k) in
       omega (arith, on, step-adds b dev out h there k e .1)
 
@@ -106,17 +105,6 @@ added-zero b chip addr out z =
     let d = done b (E.Add chip addr) z in
     let n = d .0 in
     rw (d .1) (zero-at b (chipNumbered chip) addr out (n .0) (leb-false 8 (b .count) (n .1 .1 .0)))
-
--- and it is there
-there-at : (b : Bus) (found : Lookup) (address : ℕ) → isUnknown found ≡ false → b .count < 8 → hasDevice (addedTo b found address) (b .count) ≡ true
-there-at b Unknown address u h = absurd (true≢false u)
-there-at b (Known chip) address u h = rw (lt-ltb (b .count) (b .count + 1) (omega arith), lt-ltb (b .count) 8 h) refl
-
-added-there : (b : Bus) (chip addr : ℕ) → stepReply b (E.Add chip addr) .code ≡ 0 → hasDevice (stepReply b (E.Add chip addr) .bus) (b .count) ≡ true
-unfolding stepDone stepRefusals
-added-there b chip addr z =
-    let d = done b (E.Add chip addr) z in
-    rw (d .1) (there-at b (chipNumbered chip) addr (d .0 .0) (leb-false 8 (b .count) (d .0 .1 .1 .0)))
 
 -- so its sums start at 0
 pub added-history : (b : Bus) (chip addr out : ℕ) (l : List Event) → busOk b ≡ true → stepReply b (E.Add chip addr) .code ≡ 0 → out < outputsOf (deviceAt (stepReply b (E.Add chip addr) .bus) (b .count) .chip)
@@ -161,19 +149,13 @@ module _ (b : Bus) (clock : Clock) (at chip addr out : ℕ) (l : List Entry) (h 
   taken = replay-event b clock at (E.Add chip addr) z
 
   grown-is : stepReply passed (E.Add chip addr) .bus ≡ grown
-  grown-is =
-      ap (λ (r : Reply). r .bus) (done passed (E.Add chip addr) taken .1)
-      ∙ sym (ap (λ (r : Replayed). r .reply .bus) (replay-accepted b clock at (E.Add chip addr) z))
+  grown-is = sym (replay-bus b clock at (E.Add chip addr) z)
 
   grown-zero : (litTotal grown (b .count) out ≡ 0) × (unlitTotal grown (b .count) out ≡ 0)
   grown-zero = rw (grown-is, time-count (since clock at) b) at (added-zero passed chip addr out taken)
 
   grown-there : hasDevice grown (b .count) ≡ true
   grown-there = rw (grown-is, time-count (since clock at) b) at (added-there passed chip addr taken)
-
-  goes-on : replayBus b clock (Stamped at (E.Add chip addr) ∷ l) ≡ replayBus grown (At at) l
-  goes-on =
-      ap (λ (c : Clock). replayBus grown c l) (ap (λ (x : Replayed). x .clock) (replay-accepted b clock at (E.Add chip addr) z))
 
   pub recording-added : out < outputsOf (deviceAt grown (b .count) .chip)
       → (litTotal (replayBus b clock (Stamped at (E.Add chip addr) ∷ l)) (b .count) out ≡ litSum (b .count) out grown (flat (allByHand grown (At at) l)))
@@ -182,7 +164,7 @@ module _ (b : Bus) (clock : Clock) (at chip addr out : ℕ) (l : List Entry) (h 
   recording-added k =
       let o = grown-zero in
       let r = recording-history grown (At at) l (b .count) out (replay-shape b clock (Stamped at (E.Add chip addr)) ∙ h) grown-there k in
-      rw goes-on (omega (arith, r .0, o .0), (omega (arith, r .1 .0, o .1), omega (arith, r .1 .1, o .0, o .1)))
+      rw (replay-on b clock at (E.Add chip addr) l z) (omega (arith, r .0, o .0), (omega (arith, r .1 .0, o .1), omega (arith, r .1 .1, o .0, o .1)))
 
 -- ---- no other event changes a total
 

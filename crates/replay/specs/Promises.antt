@@ -18,6 +18,7 @@ use Rattle.bus.specs.Events.{stepReply, stepRefusals, stepDone, runBus, runRepl
 use Rattle.bus.specs.Promises.{step-code, empty-well}
 use Rattle.bus.specs.laws.Replies.{answer-bus, answer-exact, answer-done, answer-refused}
 use Rattle.bus.specs.laws.Runs.{run-both}
+use Rattle.bus.specs.laws.Steps.{done}
 use Rattle.bus.specs.laws.WellFormed.{done-shape, done-code}
 use Rattle.bus.specs.declared.Bus.{Bus}
 use Rattle.bus.specs.declared.Event.{Event}
@@ -88,6 +89,17 @@ unfolding replayed
 replay-event b clock at e z =
     let m = afterTime (since clock at) b in
     step-code m e ∙ none-code (stepRefusals m e) (none-both (stepRefusals m e) _ (timed-done (since clock at) b e z .0) .0)
+
+-- so its bus is that event's
+pub replay-bus : (b : Bus) (clock : Clock) (at : ℕ) (e : Event) → replayed b clock (Stamped at e) .reply .code ≡ 0 → replayed b clock (Stamped at e) .reply .bus ≡ stepReply (afterTime (since clock at) b) e .bus
+replay-bus b clock at e z =
+    ap (λ (r : Replayed). r .reply .bus) (replay-accepted b clock at e z)
+    ∙ ap (λ (r : Reply). r .bus) (sym (done (afterTime (since clock at) b) e (replay-event b clock at e z) .1))
+
+-- and the recording goes on from there
+pub replay-on : (b : Bus) (clock : Clock) (at : ℕ) (e : Event) (l : List Entry) → replayed b clock (Stamped at e) .reply .code ≡ 0 → replayBus b clock (Stamped at e ∷ l) ≡ replayBus (replayed b clock (Stamped at e) .reply .bus) (At at) l
+replay-on b clock at e l z =
+    ap (λ (c : Clock). replayBus (replayed b clock (Stamped at e) .reply .bus) c l) (ap (λ (r : Replayed). r .clock) (replay-accepted b clock at e z))
 
 -- ---- well-formedness
 

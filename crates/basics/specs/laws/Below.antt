@@ -2,7 +2,7 @@
 use Prim.Native.Nat.{ℕ, zero, suc, _+_, _≤_, _<_}
 use mathlib.Core.Path.{_≡_, refl, sym}
 use mathlib.Core.Logic.{⊎-elim}
-use mathlib.Core.Bool.{Bool, true, false, and-false}
+use mathlib.Core.Bool.{Bool, true, false, _&&_, and-false}
 use native.Mathlib.Numerals.{add-one}
 use native.Mathlib.Nat.{not-suc-le-zero, le-of-suc-le-suc, eq-or-lt-of-le, suc-inj}
 use native.Mathlib.Omega.{arith}
@@ -45,6 +45,11 @@ module _ (p : ℕ → Bool) where
 
   pub below-fails : (i n : ℕ) → i < n → p i ≡ false → false ≡ allBelow n p
   below-fails i n h e = sym (fails-below i n h e)
+
+-- a test of each, and another beside it, where there is one to test
+pub below-and : (b : Bool) (p : ℕ → Bool) (n : ℕ) → 0 < n → allBelow n (λ i. b && p i) ≡ (b && allBelow n p)
+below-and true p n h = refl
+below-and false p n h = fails-below (λ i. false) 0 n h refl
 
 -- two tests that agree at each
 pub below-alike : (p q : ℕ → Bool) (n : ℕ) → ((i : ℕ) → i < n → p i ≡ q i) → allBelow n p ≡ allBelow n q

@@ -1,11 +1,13 @@
 -- A set of positions as a number: what a loop over them starts with, what a turn adds, what it ends with; and its bits.
-use Prim.Native.Nat.{ℕ, zero, suc, _+_, _*_, _/_, _%_, _^_, _≤_, _<_}
+use Prim.Native.Nat.{ℕ, zero, suc, min, _+_, _*_, _/_, _%_, _^_, _≤_, _<_}
 use mathlib.Core.Path.{_≡_, refl, _∙_}
+use mathlib.Core.Logic.{⊎-elim}
 use mathlib.Core.Bool.{Bool, true, false, _&&_, cond}
 use mathlib.Core.List.{List, [], _∷_}
 use native.Mathlib.Numerals.{add-one}
-use native.Mathlib.Nat.{le-of-suc-le-suc, mul-one, add-mul, pow-suc, pow-succ', mul-assoc, one-mul, zero-div, div-one, div-div-eq-div-mul}
+use native.Mathlib.Nat.{le-of-suc-le-suc, eq-zero-or-pos, mul-one, add-mul, pow-suc, pow-succ', mul-assoc, one-mul, zero-div, div-one, div-div-eq-div-mul}
 use native.Mathlib.Omega.{arith}
+use lib.Bits.{bitAnd, and-step, and-shr}
 use lib.Dec.{eqb, ltb, leb·suc-suc}
 use lib.ListN.{length, take, getD}
 use lib.Pow.{pow-mono}
@@ -44,6 +46,24 @@ bit-lowest b m = rw (div-one, halves b m .1) (go b)
 
 bit-next : (b : Bool) (m i : ℕ) → bit (suc i) (cond b 1 0 + 2 * m) ≡ bit i m
 bit-next b m i = rw (pow-succ' 2 i, ← div-div-eq-div-mul, halves b m .0) refl
+
+-- a bit that both of two numbers have
+both-one : (a b : ℕ) → a < 2 → b < 2 → eqb (min a b) 1 ≡ (eqb a 1 && eqb b 1)
+both-one a b h k =
+    ⊎-elim (λ (z : a ≡ 0). let m : min a b ≡ 0 = omega arith in rw (m, z) refl)
+    (λ p. let e : a ≡ 1 = omega arith in let m : min a b ≡ b = omega arith in rw (m, e) refl)
+    (eq-zero-or-pos a)
+
+pub and-bit : (k a b : ℕ) → bit k (bitAnd a b) ≡ (bit k a && bit k b)
+and-bit k a b =
+    let x = a / 2 ^ k in
+    let y = b / 2 ^ k in
+    let m : bitAnd x y % 2 ≡ min (x % 2) (y % 2) = omega (arith, and-step x y) in
+    rw (and-shr a b k, m) (both-one (x % 2) (y % 2) (omega arith) (omega arith))
+
+-- 0 has none
+pub no-bit : (k : ℕ) → bit k 0 ≡ false
+no-bit k = rw zero-div refl
 
 -- ---- sets
 

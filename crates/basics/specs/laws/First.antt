@@ -1,15 +1,18 @@
 -- The first n elements of a list, for any element, function and test: what a loop over them starts with, what a turn adds, what it ends with; and what keeps a test of all.
 use Prim.Native.Nat.{ℕ, zero, suc, _+_, _≤_, _<_}
-use mathlib.Core.Path.{_≡_, refl, sym, ap}
-use mathlib.Core.Bool.{Bool, true, false, not, and-false, false≢true}
-use mathlib.Core.List.{List, [], _∷_}
+use mathlib.Core.Path.{_≡_, refl, sym, ap, _∙_}
+use mathlib.Core.Bool.{Bool, true, false, not, _&&_, and-true, and-false, and-assoc, false≢true}
+use mathlib.Core.List.{List, [], _∷_, _++_}
 use native.Mathlib.Numerals.{add-one}
 use native.Mathlib.Nat.{le-of-suc-le-suc}
 use native.Mathlib.Omega.{arith}
 use lib.Bits.{bitAnd, and-le-l}
 use lib.ListN.{length, take, getD, set}
+use lib.Seq.{take-suc}
 use Rattle.basics.specs.laws.Logic.{tested, holds, fails, and-left, and-right}
-use Rattle.basics.specs.Bits.{mask}
+use Rattle.basics.specs.laws.Bits.{and-bit}
+use Rattle.basics.specs.Below.{allBelow}
+use Rattle.basics.specs.Bits.{bit, mask}
 use Rattle.basics.specs.First.{mapFirst, allFirst, andFirst, all, andOf}
 
 -- ---- a function at each
@@ -43,6 +46,14 @@ module _ {A : Type 0} (f : A → A) where
   map-keeps g h z (suc n) [] i = refl
   map-keeps g h z (suc n) (x ∷ l) zero = h x
   map-keeps g h z (suc n) (x ∷ l) (suc i) = map-keeps g h z n l i
+
+  -- an element among the first n that is there becomes f of it
+  pub map-there : (z : A) (n : ℕ) (l : List A) (i : ℕ) → i < n → i < length l → getD (mapFirst n f l) i z ≡ f (getD l i z)
+  unfolding mapFirst
+  map-there z zero l i h k = absurd (omega arith)
+  map-there z (suc n) [] i h k = absurd (omega arith)
+  map-there z (suc n) (x ∷ l) zero h k = refl
+  map-there z (suc n) (x ∷ l) (suc i) h k = map-there z n l i (le-of-suc-le-suc h) (le-of-suc-le-suc k)
 
   pub map-done : (l now : List A) (i n : ℕ) → i ≤ n → n ≤ i → now ≡ mapFirst i f l → now ≡ mapFirst n f l
   map-done l now i n h k e = let q : n ≡ i = omega arith in rw q e
@@ -104,6 +115,20 @@ module _ {A : Type 0} (p : A → Bool) where
   all-added (x ∷ l) (suc n) y q e =
       rw (and-left (p x) (all p (take n l)) e) (all-added l n y q (and-right (p x) (all p (take n l)) e))
 
+  -- a test of all, where one more is put behind them
+  pub all-behind : (l : List A) (x : A) → all p (l ++ x ∷ []) ≡ (all p l && p x)
+  all-behind [] x = and-true (p x)
+  all-behind (y ∷ l) x = ap (λ (b : Bool). p y && b) (all-behind l x) ∙ sym (and-assoc (p y) (all p l) (p x))
+
+  -- a test of each place is one of each element
+  pub all-places : (z : A) (n : ℕ) (l : List A) → n ≤ length l → allBelow n (λ i. p (getD l i z)) ≡ all p (take n l)
+  unfolding allBelow
+  all-places z zero l h = refl
+  all-places z (suc n) l h =
+      ap (λ (b : Bool). b && p (getD l n z)) (all-places z n l (omega arith))
+      ∙ sym (all-behind (take n l) (getD l n z))
+      ∙ ap (all p) (sym (take-suc l n z h))
+
 -- a function that takes what passes one test to what passes another
 pub all-mapped : {A : Type 0} (p q : A → Bool) (f : A → A) → ((x : A) → p x ≡ true → q (f x) ≡ true) → (n : ℕ) (l : List A) → allFirst n p l ≡ true → allFirst n q (mapFirst n f l) ≡ true
 unfolding allFirst mapFirst
@@ -135,6 +160,13 @@ module _ {A : Type 0} (f : A → ℕ) where
   pub and-byte : (l : List A) (byte : ℕ) → byte < 256 → andOf f l byte < 256
   and-byte [] byte h = h
   and-byte (x ∷ l) byte h = and-byte l (bitAnd byte (f x)) (omega (arith, and-le-l byte (f x)))
+
+  -- a bit of it is set exactly where the byte of each has it
+  pub and-bits : (k : ℕ) (l : List A) (byte : ℕ) → bit k (andOf f l byte) ≡ (bit k byte && all (λ x. bit k (f x)) l)
+  and-bits k [] byte = sym (and-true (bit k byte))
+  and-bits k (x ∷ l) byte =
+      and-bits k l (bitAnd byte (f x))
+      ∙ rw (and-bit k byte (f x)) (and-assoc (bit k byte) (bit k (f x)) (all (λ x. bit k (f x)) l))
 
 -- ---- a set of positions is empty exactly when the test fails at each
 

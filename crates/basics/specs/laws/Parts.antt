@@ -132,6 +132,16 @@ module _ (m n i : ℕ) (l : List ℕ) (long : length l ≡ m * n) (there : i < m
         ext-getD 0 given _ (given-long ∙ sym (length-tabulate (m * n) _))
         (λ x lt. let h : x < m * n = rw given-long at lt in at-place x h ∙ sym (getD-tabulate (m * n) _ x h))
 
+-- of two that are put in for the same part, the second stands
+pub with-twice : (m n i : ℕ) (p q l : List ℕ) → withPart m n i p (withPart m n i q l) ≡ withPart m n i p l
+unfolding withPart
+with-twice m n i p q l =
+    tabulated-below (m * n) _ _ (length-tabulate (m * n) _)
+    (λ k h. getD-tabulate (m * n) _ k h ∙ elim (tested (eqb (k / n) i)) [
+      | holds e ↦ rw e
+      | fails e ↦ rw e (getD-tabulate (m * n) _ k h ∙ rw e)
+    ])
+
 -- a list with a part of its own for that part
 pub with-own : (m n i : ℕ) (l : List ℕ) → length l ≡ m * n → withPart m n i (part n i l) l ≡ l
 unfolding withPart

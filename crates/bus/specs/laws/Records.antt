@@ -68,6 +68,9 @@ module _ (b : Bus) (dev : ℕ) (r : Record) (lit-long : length (r .lit) ≡ 16) 
   pub unlit-here : dev < 8 → recordAt (withRecord b dev r) dev .unlit ≡ r .unlit
   unlit-here h = part-same 8 16 dev (r .unlit) (b .unlit) h unlit-long
 
+  pub record-here : dev < 8 → dev < length (b .devices) → recordAt (withRecord b dev r) dev ≡ r
+  record-here h k = rw (lit-here h, unlit-here h, getD-set-same (b .devices) dev (r .device) none k) refl
+
   -- at every other
   pub record-other : (i : ℕ) → i < 8 → (i ≡ dev → ⊥) → recordAt (withRecord b dev r) i ≡ recordAt b i
   record-other i h n =
@@ -90,6 +93,10 @@ module _ (b : Bus) (dev : ℕ) (r : Record) (lit-long : length (r .lit) ≡ 16) 
 pub added-at : (b : Bus) (d : Device) (i : ℕ) → i < 8 → (i ≡ b .count → ⊥) → recordAt (withAdded b d) i ≡ recordAt b i
 added-at b d i h n =
     rw (part-other 8 16 (b .count) i zeros (b .lit) h n, part-other 8 16 (b .count) i zeros (b .unlit) h n, getD-set-other (b .devices) (b .count) i d none n) refl
+
+pub added-record : (b : Bus) (d : Device) → b .count < 8 → b .count < length (b .devices) → recordAt (withAdded b d) (b .count) ≡ recordOf d zeros zeros
+added-record b d h k =
+    rw (part-same 8 16 (b .count) zeros (b .lit) h refl, part-same 8 16 (b .count) zeros (b .unlit) h refl, getD-set-same (b .devices) (b .count) d none k) refl
 
 pub nought : (i : ℕ) → getD zeros i 0 ≡ 0
 nought i =

@@ -1,10 +1,16 @@
--- A run of two lists of events, one after the other.
-use mathlib.Core.Path.{_≡_, refl}
+-- A run of two lists of events, one after the other; and that no run changes how many places there are.
+use mathlib.Core.Path.{_≡_, refl, _∙_}
 use mathlib.Core.List.{List, [], _∷_, _++_}
+use lib.ListN.{length}
 use Rattle.bus.specs.Events.{stepReply, runBus}
+use Rattle.bus.specs.laws.WellFormed.{step-places}
 use Rattle.bus.specs.declared.Bus.{Bus}
 use Rattle.bus.specs.declared.Event.{Event}
 
 pub run-both : (b : Bus) (l m : List Event) → runBus b (l ++ m) ≡ runBus (runBus b l) m
 run-both b [] m = refl
 run-both b (e ∷ l) m = run-both (stepReply b e .bus) l m
+
+pub run-places : (b : Bus) (l : List Event) → length (runBus b l .devices) ≡ length (b .devices)
+run-places b [] = refl
+run-places b (e ∷ l) = run-places (stepReply b e .bus) l ∙ step-places b e

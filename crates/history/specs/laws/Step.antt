@@ -1,16 +1,14 @@
--- One event: what it adds to an output's totals, and that the device stays where it is, and of its kind.
+-- One event: what it adds to an output's totals, and which leave them.
 use mathlib.Core.Path.{_≡_, refl, sym, ap, subst, _∙_}
 use mathlib.Core.Bool.{true, false, and-false, true≢false}
 use mathlib.Core.List.{List}
 use Prim.Native.Nat.{ℕ, _+_, _-_, _≤_, _<_}
 use native.Mathlib.Nat.{add-zero}
 use native.Mathlib.Omega.{arith}
-use lib.Dec.{leb, ltb, eqb}
+use lib.Dec.{leb, eqb}
 use lib.ListN.{length, getD}
-use lib.Seq.{getD-set-other}
-use borrow.Author.Tests.{eqb-true, eqb-false, eq-eqb, ne-eqb, ltb-true, lt-ltb, lt-leb, not-false}
-use Rattle.basics.specs.laws.Logic.{holds, fails, tested, and-left, and-right, neither}
-use Rattle.basics.specs.laws.First.{map-keeps}
+use borrow.Author.Tests.{eqb-true, eqb-false, eq-eqb, ne-eqb, lt-leb, not-false}
+use Rattle.basics.specs.laws.Logic.{holds, fails, tested, neither}
 use Rattle.lamp.specs.Window.{litTicks, countedTicks, countLimit}
 use Rattle.chip.specs.Kinds.{chipNumbered, outputsOf}
 use Rattle.chip.specs.declared.Lookup.{Lookup}
@@ -20,8 +18,6 @@ use Rattle.device.specs.laws.Output.{lit-few}
 use Rattle.device.specs.Registers.{isAwake}
 use Rattle.device.specs.Wait.{isTooLong}
 use Rattle.device.specs.declared.Device.{Device}
-use Rattle.protocol.specs.Signals.{afterSignal}
-use Rattle.protocol.specs.laws.Kind.{signal-kind}
 use Rattle.refusals.specs.laws.Refusals.{NoneHolds, none-code}
 use Rattle.totals.specs.Wait.{exceeds}
 use Rattle.totals.specs.Promises.{lit-grows, unlit-grows}
@@ -32,9 +28,9 @@ use Rattle.bus.specs.Signals.{signalOf}
 use Rattle.bus.specs.Place.{changeRefusals, afterChange, questionRefusals, valueOf}
 use Rattle.bus.specs.Events.{stepReply, stepRefusals, stepDone, litReply}
 use Rattle.bus.specs.Promises.{step-code, refused-same}
-use Rattle.bus.specs.laws.Records.{kind-set, lit-here, unlit-here, record-other, added-at}
-use Rattle.bus.specs.laws.Replies.{answer-done}
-use Rattle.bus.specs.laws.WellFormed.{step-positive, done-code, change-kept}
+use Rattle.bus.specs.laws.Records.{lit-here, unlit-here, record-other, added-at}
+use Rattle.bus.specs.laws.Steps.{done, stays, below-count, below-eight}
+use Rattle.bus.specs.laws.WellFormed.{change-kept}
 use Rattle.bus.specs.declared.Bus.{Bus}
 use Rattle.bus.specs.declared.Change.{Change}
 use Rattle.bus.specs.declared.Change.the-variants as C
@@ -43,15 +39,6 @@ use Rattle.bus.specs.declared.Event.the-variants as E
 use Rattle.bus.specs.declared.Question.the-variants as Q
 use Rattle.bus.specs.declared.Reply.{Reply}
 use Rattle.history.specs.History.{litTotal, unlitTotal, waitOf, waitShare, litShare, isWaiting, isWaitAt}
-
--- ---- replies
-
-pub done : (b : Bus) (e : Event) → stepReply b e .code ≡ 0 → NoneHolds (stepRefusals b e) × (stepReply b e ≡ stepDone b e)
-unfolding stepReply
-done b e z = answer-done (stepRefusals b e) b (stepDone b e) (done-code b e) (step-positive b e) z
-
-pub stays : (b : Bus) (e : Event) → (stepReply b e .code ≡ 0 → ⊥) → stepReply b e .bus ≡ b
-stays b e n = ap (λ (r : Reply). r .bus) (refused-same b e n)
 
 -- ---- the lit question
 
@@ -102,16 +89,13 @@ lit-few-answered b dev out w =
 -- ---- what an event does to the record at a position where a device stands
 
 module _ (b : Bus) (dev out : ℕ) (h : busOk b ≡ true) (there : hasDevice b dev ≡ true) where
-  below : dev < b .count
-  below = ltb-true dev (b .count) (and-left (ltb dev (b .count)) (ltb dev 8) there)
-
   few : dev < 8
-  few = ltb-true dev 8 (and-right (ltb dev (b .count)) (ltb dev 8) there)
+  few = below-eight b dev there
 
   -- an add leaves it
   added-same : (found : Lookup) (address : ℕ) → recordAt (addedTo b found address) dev ≡ recordAt b dev
   added-same Unknown address = refl
-  added-same (Known chip) address = added-at b _ dev few (λ e. omega (arith, below))
+  added-same (Known chip) address = added-at b _ dev few (λ e. omega (arith, below-count b dev there))
 
   -- a change of another device does
   other-same : (i : ℕ) (r : Record) → length (r .lit) ≡ 16 → length (r .unlit) ≡ 16 → (i ≡ dev → ⊥) → recordAt (withRecord b i r) dev ≡ recordAt b dev
@@ -201,32 +185,6 @@ module _ (b : Bus) (dev out : ℕ) (h : busOk b ≡ true) (there : hasDevice b d
           | holds t ↦ let z = eqb-true _ 0 t in let d = done b e z in subst (λ (x : Bus). Adds e x) (ap (λ (r : Reply). r .bus) (sym (d .1))) (accepted-adds e z (d .0))
           | fails t ↦ let n = eqb-false _ 0 t in same-record e (stepReply b e .bus) (ap (λ (x : Bus). recordAt x dev) (stays b e n)) (refused-share e n)
         ]
-
-  -- ---- the device stays where it is, and of its kind
-
-  abbrev Stands : Bus → Type 0
-  Stands x = (hasDevice x dev ≡ true) × (deviceAt x dev .chip ≡ deviceAt b dev .chip)
-
-  added-stands : (found : Lookup) (address : ℕ) → Stands (addedTo b found address)
-  added-stands Unknown address = (there, refl)
-  added-stands (Known chip) address = (
-    rw (lt-ltb dev (b .count + 1) (omega (arith, below)), lt-ltb dev 8 few) refl,
-    ap (λ (d : Device). d .chip) (getD-set-other (b .devices) (b .count) dev _ _ (λ e. omega (arith, below))),
-  )
-
-  done-stands : (e : Event) → NoneHolds (stepRefusals b e) → Stands (stepDone b e .bus)
-  unfolding stepDone stepRefusals
-  done-stands (E.Add chip addr) m = added-stands (chipNumbered chip) addr
-  done-stands (E.Signal s) m = (there, map-keeps (afterSignal (b .phase) (signalOf s)) (λ (d : Device). d .chip) (signal-kind (b .phase) (signalOf s)) _ (b .count) (b .devices) dev)
-  done-stands (E.Change i c) m = (there, kind-set (b .devices) i dev _ (change-kept b i h (not-false (hasDevice b i) (m .0)) c (m .1 .1) .kind))
-  done-stands (E.Ask i q) m = (there, refl)
-
-  pub step-stands : (e : Event) → Stands (stepReply b e .bus)
-  step-stands e =
-      elim (tested (eqb (stepReply b e .code) 0)) [
-        | holds t ↦ let d = done b e (eqb-true _ 0 t) in subst Stands (ap (λ (r : Reply). r .bus) (sym (d .1))) (done-stands e (d .0))
-        | fails t ↦ subst Stands (sym (stays b e (eqb-false _ 0 t))) (there, refl)
-      ]
 
   -- ---- any event but a wait of this device leaves its totals
 

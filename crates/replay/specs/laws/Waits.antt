@@ -35,6 +35,10 @@ pub accepted-both : (b : Bus) (l m : List Event) → AllAccepted b l → AllAcce
 accepted-both b [] m h g = g
 accepted-both b (e ∷ l) m h g = (h .0, accepted-both (stepReply b e .bus) l m (h .1) g)
 
+pub accepted-parts : (b : Bus) (l m : List Event) → AllAccepted b (l ++ m) → AllAccepted b l × AllAccepted (runBus b l) m
+accepted-parts b [] m h = (tt, h)
+accepted-parts b (e ∷ l) m h = let r = accepted-parts (stepReply b e .bus) l m (h .1) in ((h .0, r .0), r .1)
+
 pub last-value : (v : ℕ) (b : Bus) (l : List Event) (e : Event) → lastValue v (runReplies b (l ++ e ∷ [])) ≡ stepReply (runBus b l) e .value
 last-value v b [] e = refl
 last-value v b (x ∷ l) e = last-value (stepReply b x .value) (stepReply b x .bus) l e

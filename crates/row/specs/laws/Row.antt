@@ -1,10 +1,9 @@
 -- A signal on a row, from the phase and the records alone: what a bus answers depends on its phase, its count and its records, and not on the places past the count.
 use mathlib.Core.Path.{_≡_, refl, sym, ap, _∙_}
 use mathlib.Core.Logic.{⊎-elim}
-use mathlib.Core.Bool.{Bool, true, false, not, _&&_, and-true, and-false, and-assoc, cond}
+use mathlib.Core.Bool.{Bool, true, false, not, _&&_, and-false, cond}
 use mathlib.Core.List.{List, [], _∷_, _++_, map, map-append}
-use Prim.Native.Nat.{ℕ, zero, suc, _+_, _*_, _≤_, _<_}
-use native.Mathlib.Nat.{le-of-suc-le-suc}
+use Prim.Native.Nat.{ℕ, zero, suc, _+_, _*_, _≤_}
 use native.Mathlib.Omega.{arith}
 use lib.Dec.{ltb, eqb}
 use lib.ListN.{length, take, drop, getD, length-map, length-append, getD-replicate, List·getD-eq-default}
@@ -12,10 +11,11 @@ use lib.Seq.{take-suc, take-append-seam}
 use borrow.Author.Tests.{le-ltb, le-leb, ltb-false, eqb-true, eq-eqb, ne-eqb}
 use Rattle.basics.specs.Below.{allBelow}
 use Rattle.basics.specs.Bits.{bit, maskFirst}
-use Rattle.basics.specs.First.{mapFirst, allFirst, andFirst, all}
+use Rattle.basics.specs.First.{allFirst, andFirst, all}
 use Rattle.basics.specs.Parts.{part}
 use Rattle.basics.specs.laws.Below.{below-all}
 use Rattle.basics.specs.laws.Bits.{mask-bit}
+use Rattle.basics.specs.laws.First.{map-there, all-behind}
 use Rattle.basics.specs.laws.Logic.{holds, fails, tested, lt-or-ge, cond-of}
 use Rattle.basics.specs.laws.Parts.{part-long, part-at}
 use Rattle.chip.specs.declared.Chip.the-variants.{Pca9635}
@@ -43,13 +43,6 @@ use Rattle.row.specs.Row.{devicesOf, allFit, refitted, rowBus, refusedRo
 use Rattle.row.specs.Records.{recordAfter, rowValue, rowRefusals, RowIs, recordsBelow, recordsOf}
 use Rattle.row.specs.laws.Refitted.{getD-device, refit-own, refit-done}
 use Rattle.row.specs.declared.RowReply.{RowReply}
-
--- ---- lists
-
--- a test of all, where one more is put behind them
-all-behind : {A : Type 0} (p : A → Bool) (l : List A) (x : A) → all p (l ++ x ∷ []) ≡ (all p l && p x)
-all-behind p [] x = and-true (p x)
-all-behind p (y ∷ l) x = ap (λ (b : Bool). p y && b) (all-behind p l x) ∙ sym (and-assoc (p y) (all p l) (p x))
 
 -- ---- what a bus answers
 
@@ -196,13 +189,6 @@ is-set rs p byte i z c =
 abbrev none : Device
 none = fresh Pca9635 0
 
-getD-mapped : (f : Device → Device) (n i : ℕ) (ds : List Device) → i < n → i < length ds → getD (mapFirst n f ds) i none ≡ f (getD ds i none)
-unfolding mapFirst
-getD-mapped f zero i ds h l = absurd (omega arith)
-getD-mapped f (suc n) i [] h l = absurd (omega arith)
-getD-mapped f (suc n) zero (d ∷ ds) h l = refl
-getD-mapped f (suc n) (suc i) (d ∷ ds) h l = getD-mapped f n i ds (le-of-suc-le-suc h) (le-of-suc-le-suc l)
-
 module _ (b : Bus) where
   many : (n : ℕ) → length (recordsBelow b n) ≡ n
   many zero = refl
@@ -225,7 +211,7 @@ module _ (b : Bus) where
     after-are zero h = refl
     after-are (suc n) h =
         ap (λ (rs : List Record). rs ++ recordAt (busAfter (signalOf e) b) n ∷ []) (after-are n (omega arith))
-        ∙ ap (λ (d : Device). map (recordAfter (b .phase) e) (recordsBelow b n) ++ recordOf d (part 16 n (b .lit)) (part 16 n (b .unlit)) ∷ []) (getD-mapped (afterSignal (b .phase) (signalOf e)) (b .count) n (b .devices) h (omega arith))
+        ∙ ap (λ (d : Device). map (recordAfter (b .phase) e) (recordsBelow b n) ++ recordOf d (part 16 n (b .lit)) (part 16 n (b .unlit)) ∷ []) (map-there (afterSignal (b .phase) (signalOf e)) none (b .count) (b .devices) n h (omega arith))
         ∙ sym (map-append (recordAfter (b .phase) e) (recordsBelow b n) (recordAt b n ∷ []))
 
     module _ (few : b .count ≤ 8) where
