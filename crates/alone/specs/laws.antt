@@ -1,0 +1,6 @@
+pub mod Only
+pub mod Step
+pub mod Values
+pub mod Run
+pub mod Messages
+pub mod Entries
