@@ -1,5 +1,6 @@
 //! A plain model of the lamp twin, for comparison with other programs.
 
+pub mod alone;
 pub mod check;
 pub mod generate;
 pub mod lit;
