@@ -33,7 +33,8 @@ use Rattle.replay.specs.declared.Entry.{Entry}
 use Rattle.replay.specs.declared.Entry.the-variants.{Stamped}
 use Rattle.alone.specs.Alone.{only, alone, Present, concerns, renamed, shortened, AsAlone, isAdd, isTransfer, getReply}
 use Rattle.alone.specs.laws.Step.{alone-record, alone-well}
-use Rattle.alone.specs.laws.Run.{run-present, kept, dropped, run, accepted, add-accepted, add-alone, shortened-both, add-present, adds-dropped, adds-count}
+use Rattle.alone.specs.laws.Run.{run-present, kept, dropped, run, accepted, shortened-both}
+use Rattle.alone.specs.laws.Added.{add-accepted, add-alone, add-present, adds-dropped, adds-count}
 use Rattle.alone.specs.laws.Values.{put-value, get-all, get-value, other-value}
 use Rattle.alone.specs.laws.Entries.{hand-kept, hand-dropped}
 use Rattle.alone.specs.laws.Messages.{signals-run, gets-alone, message-alone, write-refusals, read-refusals}
@@ -124,10 +125,9 @@ module _ (i : ℕ) (b : Bus) (p : Present i b) where
 module _ (b : Bus) (chip addr : ℕ) (h : busOk b ≡ true) (places : length (b .devices) ≡ 8) where
   pub added-alone : (l : List Event) → AllAccepted b (Add chip addr ∷ l) → AllAccepted emptyBus (Add chip addr ∷ shortened (b .count) l) × (recordAt (runBus emptyBus (Add chip addr ∷ shortened (b .count) l)) 0 ≡ recordAt (runBus b (Add chip addr ∷ l)) (b .count))
   added-alone l a =
-      let p = add-present b chip addr h places (a .0) in
-      let same = add-alone b chip addr h places (a .0) in
-      let r = record-alone (b .count) (stepReply b (Add chip addr) .bus) p l (a .1) in
-      ((add-accepted b chip addr h places (a .0), rw same (r .0)), ap (λ (x : Bus). recordAt (runBus x (shortened (b .count) l)) 0) same ∙ r .1)
+      let same = add-alone b chip addr (a .0) places in
+      let r = record-alone (b .count) (stepReply b (Add chip addr) .bus) (add-present b chip addr (a .0) h places) l (a .1) in
+      ((add-accepted b chip addr (a .0), rw same (r .0)), ap (λ (x : Bus). recordAt (runBus x (shortened (b .count) l)) 0) same ∙ r .1)
 
 -- by an entry of a recording
 module _ (b : Bus) (clock : Clock) (at chip addr : ℕ) (l : List Entry) (h : busOk b ≡ true) (places : length (b .devices) ≡ 8) (z : replayed b clock (Stamped at (Add chip addr)) .reply .code ≡ 0) where

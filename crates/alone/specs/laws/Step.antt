@@ -46,21 +46,21 @@ module _ (b : Bus) (i : ℕ) (h : busOk b ≡ true) (there : hasDevice b i ≡ t
 
   -- ---- what does not concern it
 
-  added-alone : (found : Lookup) (address : ℕ) → alone i (addedTo b found address) ≡ alone i b
-  added-alone Unknown address = refl
-  added-alone (Known chip) address = ap (only (b .phase)) (added-at b _ i (below-eight b i there) (λ e. omega (arith, below-count b i there)))
+  added-left : (found : Lookup) (address : ℕ) → alone i (addedTo b found address) ≡ alone i b
+  added-left Unknown address = refl
+  added-left (Known chip) address = ap (only (b .phase)) (added-at b _ i (below-eight b i there) (λ e. omega (arith, below-count b i there)))
 
-  other-alone : (dev : ℕ) (c : Change) → (dev ≡ i → ⊥) → NoneHolds (stepRefusals b (E.Change dev c)) → alone i (withRecord b dev (afterChange (recordAt b dev) c)) ≡ alone i b
+  other-left : (dev : ℕ) (c : Change) → (dev ≡ i → ⊥) → NoneHolds (stepRefusals b (E.Change dev c)) → alone i (withRecord b dev (afterChange (recordAt b dev) c)) ≡ alone i b
   unfolding stepRefusals
-  other-alone dev c n m =
+  other-left dev c n m =
       let kept = change-kept b dev h (not-false (hasDevice b dev) (m .0)) c (m .1 .1) in
       ap (only (b .phase)) (record-other b dev (afterChange (recordAt b dev) c) (kept .lit-long) (kept .unlit-long) i (below-eight b i there) (λ e. n (sym e)))
 
   done-left : (e : Event) → concerns i e ≡ false → NoneHolds (stepRefusals b e) → alone i (stepDone b e .bus) ≡ alone i b
   unfolding stepDone
-  done-left (E.Add chip addr) o m = added-alone (chipNumbered chip) addr
+  done-left (E.Add chip addr) o m = added-left (chipNumbered chip) addr
   done-left (E.Signal s) o m = absurd (true≢false o)
-  done-left (E.Change dev c) o m = other-alone dev c (eqb-false dev i o) m
+  done-left (E.Change dev c) o m = other-left dev c (eqb-false dev i o) m
   done-left (E.Ask dev q) o m = refl
 
   pub step-left : (e : Event) → concerns i e ≡ false → alone i (stepReply b e .bus) ≡ alone i b
@@ -76,7 +76,7 @@ module _ (b : Bus) (i : ℕ) (h : busOk b ≡ true) (there : hasDevice b i ≡ t
   named-alone : (own : Record → List Refusal) → placeRefusals (alone i b) 0 ++ own (recordAt (alone i b) 0) ≡ placeRefusals b i ++ own (recordAt b i)
   named-alone own = rw (alone-record, alone-well, h, there, only-there (b .phase) (recordAt b i)) refl
 
-  pub refusals-alone : (e : Event) → concerns i e ≡ true → stepRefusals (alone i b) (renamed e) ≡ stepRefusals b e
+  refusals-alone : (e : Event) → concerns i e ≡ true → stepRefusals (alone i b) (renamed e) ≡ stepRefusals b e
   unfolding stepRefusals
   refusals-alone (E.Add chip addr) o = absurd (false≢true o)
   refusals-alone (E.Signal s) o = rw (alone-well, h, only-phase (b .phase) (recordAt b i))
