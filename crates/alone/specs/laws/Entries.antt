@@ -58,7 +58,7 @@ module _ (i : ℕ) (b : Bus) (p : Present i b) (ticks : DriverTicks) where
             rw (other-wait n d, append-nil) (waits-past n (⊎-elim (λ l. l) (λ g. absurd (d (omega arith))) (lt-or-ge i n)))
       ]
 
-  pub waits-left : shortened i (waitsBelow ticks b (b .count)) ≡ waitsBelow ticks (alone i b) (alone i b .count)
+  waits-left : shortened i (waitsBelow ticks b (b .count)) ≡ waitsBelow ticks (alone i b) (alone i b .count)
   unfolding only waitsBelow
   waits-left = waits-past (b .count) (below-count b i (p .1 .0))
 

@@ -52,7 +52,7 @@ module _ (i : ℕ) where
   ack-alone b (Put byte) p = fewer _ _ (put-value i b p byte)
   ack-alone b (Get ack) p = omega arith
 
-  pub acks-alone : (b : Bus) (l : List SignalEvent) → Present i b → ackedPuts (alone i b) l ≤ ackedPuts b l
+  acks-alone : (b : Bus) (l : List SignalEvent) → Present i b → ackedPuts (alone i b) l ≤ ackedPuts b l
   unfolding ackedPuts
   acks-alone b [] p = omega arith
   acks-alone b (s ∷ l) p =

@@ -31,7 +31,7 @@ module _ (p : Phase) (r : Record) where
   unfolding only
   only-there = refl
 
-  -- one function at the device, which is the first of the row
+  -- one function at each device, of which there is one
   pub only-after : (s : Signal) → busAfter s (only p r) ≡ only (phaseAfterSignal p s) (withChip r (afterSignal p s (r .device)))
   unfolding only mapFirst
   only-after s = refl

@@ -1,4 +1,4 @@
--- One event, by its code: accepted, no refusal holds and it is done; refused, the bus stays. A device stays where it is, and of its kind.
+-- One event, by its code: accepted, no refusal holds and it is done; refused, the bus stays. A device stays where it is, and of its kind, and one that is added stands at the next position.
 use mathlib.Core.Path.{_≡_, refl, sym, ap, subst}
 use mathlib.Core.Bool.{true, false, true≢false}
 use Prim.Native.Nat.{ℕ, _+_, _<_}
@@ -76,12 +76,10 @@ known-added b Unknown address u = absurd (true≢false u)
 known-added b (Known chip) address u = refl
 
 module _ (b : Bus) (chip addr : ℕ) (z : stepReply b (E.Add chip addr) .code ≡ 0) where
-  -- one more device
   pub added-count : stepReply b (E.Add chip addr) .bus .count ≡ b .count + 1
   unfolding stepDone stepRefusals
   added-count = let d = done b (E.Add chip addr) z in rw (d .1) (known-added b (chipNumbered chip) addr (d .0 .0))
 
-  -- at the next position
   pub added-there : hasDevice (stepReply b (E.Add chip addr) .bus) (b .count) ≡ true
   unfolding stepRefusals
   added-there =
