@@ -50,6 +50,13 @@ unfoldable pub shortened : ℕ → List Event → List Event
 shortened i [] = []
 shortened i (e ∷ l) = cond (concerns i e) (renamed e ∷ []) [] ++ shortened i l
 
+-- nothing goes over the bus: no START, STOP, put or get
+abbrev pub isSilent : Event → Bool
+isSilent (Add chip addr) = true
+isSilent (Signal s) = false
+isSilent (Change dev c) = true
+isSilent (Ask dev q) = true
+
 abbrev pub isAdd : Event → Bool
 isAdd (Add chip addr) = true
 isAdd (Signal s) = false

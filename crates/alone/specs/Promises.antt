@@ -4,6 +4,7 @@ use mathlib.Core.Path.{_≡_, refl, sym, ap, subst, _∙_}
 use mathlib.Core.Bool.{true, false, cond}
 use mathlib.Core.List.{List, _∷_, _++_, map}
 use Prim.Native.Nat.{ℕ, _≤_}
+use native.Mathlib.Nat.{le-refl}
 use native.Mathlib.Omega.{arith}
 use lib.ListN.{length, getD}
 use borrow.Author.Tests.{eq-eqb}
@@ -31,10 +32,10 @@ use Rattle.replay.specs.declared.Clock.{Clock}
 use Rattle.replay.specs.declared.Clock.the-variants.{At}
 use Rattle.replay.specs.declared.Entry.{Entry}
 use Rattle.replay.specs.declared.Entry.the-variants.{Stamped}
-use Rattle.alone.specs.Alone.{only, alone, Present, concerns, renamed, shortened, AsAlone, isAdd, isTransfer, getReply}
+use Rattle.alone.specs.Alone.{only, alone, Present, concerns, renamed, shortened, isSilent, AsAlone, isAdd, isTransfer, getReply}
 use Rattle.alone.specs.laws.Step.{alone-record, alone-well}
 use Rattle.alone.specs.laws.Run.{run-present, kept, dropped, run, accepted, shortened-both}
-use Rattle.alone.specs.laws.Added.{add-accepted, add-alone, add-present, adds-dropped, adds-count}
+use Rattle.alone.specs.laws.Added.{add-accepted, add-alone, add-present, early-dropped, adds-silent, adds-count}
 use Rattle.alone.specs.laws.Values.{put-value, get-all, get-value, other-value}
 use Rattle.alone.specs.laws.Entries.{hand-kept, hand-dropped}
 use Rattle.alone.specs.laws.Messages.{signals-run, gets-alone, message-alone, write-refusals, read-refusals}
@@ -152,11 +153,18 @@ module _ (b : Bus) (clock : Clock) (at chip addr : ℕ) (l : List Entry) (h : bu
   recorded-alone =
       rw (by-hand .1, time-count (since clock at) b) at (added-alone passed chip addr (time-shape (since clock at) b ∙ h) (time-places (since clock at) b ∙ places) (flat (allByHand grown (At at) l)) (by-hand .0))
 
--- all devices added first, from an empty bus on: the device's own add, and what is left of all else
+-- from an empty bus on, added before the first START: the device's own add, and what is left of all else
+pub early-alone : (before l : List Event) (chip addr : ℕ) → all isSilent before ≡ true → AllAccepted emptyBus (before ++ Add chip addr ∷ l)
+    → AllAccepted emptyBus (Add chip addr ∷ shortened (runBus emptyBus before .count) (before ++ l)) × (recordAt (runBus emptyBus (Add chip addr ∷ shortened (runBus emptyBus before .count) (before ++ l))) 0 ≡ recordAt (runBus emptyBus (before ++ Add chip addr ∷ l)) (runBus emptyBus before .count))
+early-alone before l chip addr o a =
+    let parts = accepted-parts emptyBus before (Add chip addr ∷ l) a in
+    let i = runBus emptyBus before .count in
+    let left : shortened i (before ++ l) ≡ shortened i l = shortened-both i before l ∙ ap (λ (t : List Event). t ++ shortened i l) (early-dropped i emptyBus before o (parts .0) (le-refl i)) in
+    rw (left, run-both emptyBus before (Add chip addr ∷ l)) (added-alone (runBus emptyBus before) chip addr (run-well emptyBus before empty-well) (run-places emptyBus before) l (parts .1))
+
+-- nothing but adds before it: its position is their number
 pub adds-alone : (adds l : List Event) (chip addr : ℕ) → all isAdd adds ≡ true → AllAccepted emptyBus (adds ++ Add chip addr ∷ l)
     → AllAccepted emptyBus (Add chip addr ∷ shortened (length adds) (adds ++ l)) × (recordAt (runBus emptyBus (Add chip addr ∷ shortened (length adds) (adds ++ l))) 0 ≡ recordAt (runBus emptyBus (adds ++ Add chip addr ∷ l)) (length adds))
 adds-alone adds l chip addr o a =
-    let parts = accepted-parts emptyBus adds (Add chip addr ∷ l) a in
-    let n : runBus emptyBus adds .count ≡ length adds = omega (arith, adds-count emptyBus adds o (parts .0)) in
-    let left : shortened (length adds) (adds ++ l) ≡ shortened (length adds) l = shortened-both (length adds) adds l ∙ ap (λ (t : List Event). t ++ shortened (length adds) l) (adds-dropped (length adds) adds o) in
-    rw (left, run-both emptyBus adds (Add chip addr ∷ l), ← n) (added-alone (runBus emptyBus adds) chip addr (run-well emptyBus adds empty-well) (run-places emptyBus adds) l (parts .1))
+    let n : runBus emptyBus adds .count ≡ length adds = omega (arith, adds-count emptyBus adds o (accepted-parts emptyBus adds (Add chip addr ∷ l) a .0)) in
+    rw (← n) (early-alone adds l chip addr (adds-silent adds o) a)

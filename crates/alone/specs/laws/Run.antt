@@ -5,7 +5,6 @@ use mathlib.Core.List.{List, [], _∷_, _++_, append-assoc}
 use Prim.Native.Nat.{ℕ, _+_}
 use native.Mathlib.Omega.{arith}
 use Rattle.basics.specs.laws.Logic.{holds, fails, tested}
-use Rattle.device.specs.declared.Phase.the-variants as P
 use Rattle.bus.specs.Events.{stepReply, runBus}
 use Rattle.bus.specs.Promises.{step-well}
 use Rattle.bus.specs.laws.Steps.{below-eight, step-stands}

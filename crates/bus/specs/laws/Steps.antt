@@ -1,7 +1,8 @@
 -- One event, by its code: accepted, no refusal holds and it is done; refused, the bus stays. A device stays where it is, and of its kind, and one that is added stands at the next position.
 use mathlib.Core.Path.{_≡_, refl, sym, ap, subst}
 use mathlib.Core.Bool.{true, false, true≢false}
-use Prim.Native.Nat.{ℕ, _+_, _<_}
+use Prim.Native.Nat.{ℕ, _+_, _≤_, _<_}
+use native.Mathlib.Nat.{le-refl}
 use native.Mathlib.Omega.{arith}
 use lib.Dec.{ltb, eqb}
 use lib.Seq.{getD-set-other}
@@ -20,7 +21,7 @@ use Rattle.bus.specs.Add.{isUnknown, addedTo}
 use Rattle.bus.specs.Signals.{signalOf}
 use Rattle.bus.specs.Events.{stepReply, stepRefusals, stepDone}
 use Rattle.bus.specs.laws.Records.{kind-set}
-use Rattle.bus.specs.laws.Replies.{answer-done, answer-refused}
+use Rattle.bus.specs.laws.Replies.{answer-bus, answer-done, answer-refused}
 use Rattle.bus.specs.laws.WellFormed.{step-positive, done-code, change-kept}
 use Rattle.bus.specs.declared.Bus.{Bus}
 use Rattle.bus.specs.declared.Event.{Event}
@@ -85,3 +86,21 @@ module _ (b : Bus) (chip addr : ℕ) (z : stepReply b (E.Add chip addr) .code �
   added-there =
       let few = leb-false 8 (b .count) (done b (E.Add chip addr) z .0 .1 .1 .0) in
       rw (added-count, lt-ltb (b .count) (b .count + 1) (omega arith), lt-ltb (b .count) 8 few) refl
+
+-- ---- the number of devices never falls
+
+known-grows : (b : Bus) (found : Lookup) (address : ℕ) → b .count ≤ addedTo b found address .count
+known-grows b Unknown address = le-refl (b .count)
+known-grows b (Known chip) address = omega arith
+
+done-grows : (b : Bus) (e : Event) → b .count ≤ stepDone b e .bus .count
+unfolding stepDone
+done-grows b (E.Add chip addr) = known-grows b (chipNumbered chip) addr
+done-grows b (E.Signal s) = le-refl (b .count)
+done-grows b (E.Change dev c) = le-refl (b .count)
+done-grows b (E.Ask dev q) = le-refl (b .count)
+
+pub step-grows : (b : Bus) (e : Event) → b .count ≤ stepReply b e .bus .count
+unfolding stepReply
+step-grows b e =
+    answer-bus (stepRefusals b e) b (stepDone b e) (λ (x : Bus). b .count ≤ x .count) (step-positive b e) (le-refl (b .count)) (λ n. done-grows b e)

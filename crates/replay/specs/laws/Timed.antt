@@ -10,6 +10,7 @@ use Rattle.bus.specs.Replies.{refusedWith}
 use Rattle.bus.specs.Events.{stepReply, stepRefusals, stepDone}
 use Rattle.bus.specs.Promises.{step-code}
 use Rattle.bus.specs.laws.Replies.{answered, turned-away}
+use Rattle.bus.specs.laws.Steps.{done}
 use Rattle.bus.specs.laws.WellFormed.{step-positive}
 use Rattle.bus.specs.declared.Bus.{Bus}
 use Rattle.bus.specs.declared.Event.{Event}
@@ -19,8 +20,7 @@ use Rattle.replay.specs.Replay.{timedRefusals, timedReply}
 
 -- an event that no number holds of is done
 pub step-done : (b : Bus) (e : Event) → codeOf (stepRefusals b e) ≡ 0 → stepReply b e ≡ stepDone b e
-unfolding stepReply
-step-done b e z = sym (answered (stepRefusals b e) b (stepDone b e) (stepDone b e) (codeOf (stepRefusals b e)) refl z refl)
+step-done b e z = done b e (step-code b e ∙ z) .1
 
 -- the reply to the event once the time has passed, and whether the time fits, give the code of both
 module _ (ticks : DriverTicks) (b : Bus) (e : Event) (r : Reply) (on : Bool) (code : ℕ)
