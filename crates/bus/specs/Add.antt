@@ -3,8 +3,8 @@ use Prim.Native.Nat.{ℕ}
 use mathlib.Core.Bool.{Bool, true, false, not}
 use mathlib.Core.List.{List, [], _∷_}
 use lib.Dec.{leb}
-use Rattle.chip.specs.Kinds.{chipNumbered}
-use Rattle.chip.specs.Addresses.{addressAllowed}
+use Rattle.chip.specs.Kinds.{chipNumbered, isUnknown}
+use Rattle.chip.specs.Addresses.{isBarred}
 use Rattle.chip.specs.declared.Lookup.{Lookup}
 use Rattle.chip.specs.declared.Lookup.the-variants.{Known, Unknown}
 use Rattle.device.specs.Reset.{fresh}
@@ -12,14 +12,6 @@ use Rattle.protocol.specs.Signals.{isOpen}
 use Rattle.refusals.specs.Refusals.{Refusal, refuse}
 use Rattle.bus.specs.Devices.{busOk, withAdded}
 use Rattle.bus.specs.declared.Bus.{Bus}
-
-abbrev pub isUnknown : Lookup → Bool
-isUnknown Unknown = true
-isUnknown (Known chip) = false
-
-abbrev pub isBarred : Lookup → ℕ → Bool
-isBarred Unknown address = false
-isBarred (Known chip) address = not (addressAllowed chip address)
 
 -- 1 an unknown kind; 2 an address that the kind cannot have; 3 eight devices present; 5 an open message
 abbrev pub addRefusals : Bus → ℕ → ℕ → List Refusal

@@ -1,9 +1,7 @@
 -- The shape of every reply: refused with the least number that holds, or done.
 use Prim.Native.Nat.{ℕ}
-use mathlib.Core.Bool.{cond}
 use mathlib.Core.List.{List}
-use lib.Dec.{eqb}
-use Rattle.refusals.specs.Refusals.{Refusal, codeOf}
+use Rattle.refusals.specs.Refusals.{Refusal, outcome}
 use Rattle.bus.specs.declared.Bus.{Bus}
 use Rattle.bus.specs.declared.Reply.{Reply}
 
@@ -15,4 +13,4 @@ abbrev pub doneWith : ℕ → Bus → Reply
 doneWith v b = record { code = 0; value = v; bus = b }
 
 unfoldable pub answer : List Refusal → Bus → Reply → Reply
-answer l b done = cond (eqb (codeOf l) 0) done (refusedWith b (codeOf l))
+answer l b done = outcome l (refusedWith b) done

@@ -8,26 +8,8 @@ ghost use Prim.Native.Nat.{_<_};
 ghost use Rattle.refusals.specs.Refusals.{codeOf};
 ghost use Rattle.bus.specs.declared.Event.the-variants.{Add};
 ghost use Rattle.bus.specs.Devices.{busOk};
-ghost use Rattle.bus.specs.Add.{addRefusals, addedTo, isUnknown, isBarred};
+ghost use Rattle.bus.specs.Add.{addRefusals, addedTo};
 ghost use Rattle.bus.specs.Events.{stepReply};
-
-fn is_unknown(found: Lookup) -> bool
-    ensures { λ r. ⌜ r ≡ isUnknown found ⌝ }
-{
-    match found {
-        Lookup::Known(_) => false,
-        Lookup::Unknown => true,
-    }
-}
-
-fn is_barred(found: Lookup, address: u64) -> bool
-    ensures { λ r. ⌜ r ≡ isBarred found address ⌝ }
-{
-    match found {
-        Lookup::Known(chip) => !chip::address_allowed(chip, address),
-        Lookup::Unknown => false,
-    }
-}
 
 fn add_code(ok: bool, bus: Bus, chip: u64, address: u64) -> u64
     requires { ⌜ ok ≡ busOk bus ⌝ }
@@ -35,8 +17,8 @@ fn add_code(ok: bool, bus: Bus, chip: u64, address: u64) -> u64
 {
     let phase = bus.phase;
     let found = chip::chip_numbered(chip);
-    let code = or_refused(0, 1, is_unknown(found));
-    let code = or_refused(code, 2, is_barred(found, address));
+    let code = or_refused(0, 1, chip::is_unknown(found));
+    let code = or_refused(code, 2, chip::is_barred(found, address));
     let code = or_refused(code, 3, 8 <= bus.count);
     let code = or_refused(code, 4, !ok);
     or_refused(code, 5, protocol::signals::is_open(phase))

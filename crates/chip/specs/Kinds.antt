@@ -21,6 +21,10 @@ chipNumbered n =
     (cond (eqb n 9531) (Known Pca9531)
     (cond (eqb n 9551) (Known Pca9551) Unknown)))
 
+abbrev pub isUnknown : Lookup → Bool
+isUnknown Unknown = true
+isUnknown (Known chip) = false
+
 -- drivers; the others are blinkers (RULES, Chips)
 abbrev pub isDriver : Chip → Bool
 isDriver Pca9635 = true

@@ -68,3 +68,10 @@ inBuffer n r = leb pwm0 r && ltb r (subadr1 n)
 
 unfoldable pub isBuffered : Chip → ℕ → Bool
 isBuffered chip r = cond (isDriver chip) (inBuffer (outputsOf chip) r) false
+
+-- the first register that can be written, and how many there are from it on: all of a driver, of a blinker all but INPUT
+abbrev pub firstWritable : Chip → ℕ
+firstWritable chip = cond (isDriver chip) mode1 psc0
+
+abbrev pub writables : Chip → ℕ
+writables chip = cond (isDriver chip) (allcalladr (outputsOf chip) + 1) (ls0 + 1)

@@ -1,2 +1,3 @@
 pub mod Registers
 pub mod Control
+pub mod Addresses

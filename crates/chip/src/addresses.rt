@@ -1,7 +1,8 @@
 // Which hardware addresses a chip can have.
 use crate::Chip;
+use crate::Lookup;
 ghost use mathlib.Core.Path.{_≡_};
-ghost use Rattle.chip.specs.Addresses.{addressAllowed};
+ghost use Rattle.chip.specs.Addresses.{addressAllowed, isBarred};
 
 pub fn address_allowed(chip: Chip, address: u64) -> bool
     ensures { λ r. ⌜ r ≡ addressAllowed chip address ⌝ }
@@ -16,5 +17,15 @@ pub fn address_allowed(chip: Chip, address: u64) -> bool
         }
     } else {
         address <= 7
+    }
+}
+
+// Whether the chip of a number cannot have the address.
+pub fn is_barred(found: Lookup, address: u64) -> bool
+    ensures { λ r. ⌜ r ≡ isBarred found address ⌝ }
+{
+    match found {
+        Lookup::Known(chip) => !address_allowed(chip, address),
+        Lookup::Unknown => false,
     }
 }

@@ -2,7 +2,7 @@
 use crate::Chip;
 use crate::Lookup;
 ghost use mathlib.Core.Path.{_≡_};
-ghost use Rattle.chip.specs.Kinds.{numberOf, chipNumbered, isDriver, outputsOf};
+ghost use Rattle.chip.specs.Kinds.{numberOf, chipNumbered, isUnknown, isDriver, outputsOf};
 
 pub fn number_of(chip: Chip) -> u64
     ensures { λ r. ⌜ r ≡ numberOf chip ⌝ }
@@ -24,6 +24,15 @@ pub fn chip_numbered(number: u64) -> Lookup
         9531 => Lookup::Known(Chip::Pca9531),
         9551 => Lookup::Known(Chip::Pca9551),
         _ => Lookup::Unknown,
+    }
+}
+
+pub fn is_unknown(found: Lookup) -> bool
+    ensures { λ r. ⌜ r ≡ isUnknown found ⌝ }
+{
+    match found {
+        Lookup::Known(_) => false,
+        Lookup::Unknown => true,
     }
 }
 

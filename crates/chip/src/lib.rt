@@ -6,8 +6,10 @@ mod registers;
 pub mod values;
 
 pub use addresses::address_allowed;
+pub use addresses::is_barred;
 pub use kinds::chip_numbered;
 pub use kinds::is_driver;
+pub use kinds::is_unknown;
 pub use kinds::number_of;
 pub use kinds::outputs;
 pub use registers::BLINK_PWM0;
@@ -17,8 +19,10 @@ pub use registers::MODE1;
 pub use registers::MODE2;
 pub use registers::PSC0;
 pub use registers::PWM0;
+pub use registers::first_writable;
 pub use registers::is_buffered;
 pub use registers::register_map;
+pub use registers::writables;
 
 pub enum Chip {
     Pca9635,

@@ -3,7 +3,7 @@ use crate::Chip;
 use crate::RegisterMap;
 ghost use mathlib.Core.Path.{_≡_};
 ghost use Rattle.chip.specs.Kinds.{outputsOf};
-ghost use Rattle.chip.specs.Registers.{registerMap, isBuffered};
+ghost use Rattle.chip.specs.Registers.{registerMap, isBuffered, firstWritable, writables};
 
 // The drivers' first registers; the other PWMs follow PWM0.
 pub const MODE1: u8 = 0;
@@ -65,5 +65,24 @@ pub fn is_buffered(chip: Chip, register: usize) -> bool
         }
     } else {
         false
+    }
+}
+
+// The first register that can be written.
+pub fn first_writable(chip: Chip) -> u8
+    ensures { λ r. ⌜ r ≡ firstWritable chip ⌝ }
+{
+    if crate::is_driver(chip) { MODE1 } else { PSC0 }
+}
+
+// How many registers can be written, from the first on.
+pub fn writables(chip: Chip) -> u8
+    ensures { λ r. ⌜ r ≡ writables chip ⌝ }
+{
+    if crate::is_driver(chip) {
+        let map = register_map(chip);
+        map.allcalladr + 1
+    } else {
+        LS0 + 1
     }
 }

@@ -11,7 +11,7 @@ use borrow.Author.Tests.{not-false, leb-true, lt-ltb, leb-false, eqb-true, eqb-f
 use Rattle.basics.specs.laws.Logic.{holds, fails, tested, neither}
 use Rattle.basics.specs.laws.Parts.{part-same}
 use Rattle.basics.specs.laws.Below.{below-at}
-use Rattle.chip.specs.Kinds.{chipNumbered, outputsOf}
+use Rattle.chip.specs.Kinds.{chipNumbered, isUnknown, outputsOf}
 use Rattle.chip.specs.declared.Lookup.{Lookup}
 use Rattle.chip.specs.declared.Lookup.the-variants.{Known, Unknown}
 use Rattle.device.specs.Wait.{isTooLong}
@@ -23,7 +23,7 @@ use Rattle.bus.specs.Devices.{busOk, hasDevice, deviceAt, recordAt}
 use Rattle.bus.specs.Place.{changeRefusals, afterChange}
 use Rattle.bus.specs.Events.{stepReply, stepRefusals, stepDone, runBus, waitReply, litReply}
 use Rattle.bus.specs.Signals.{signalValue}
-use Rattle.bus.specs.Add.{isUnknown, addedTo}
+use Rattle.bus.specs.Add.{addedTo}
 use Rattle.bus.specs.Promises.{step-code, refused-same, step-well}
 use Rattle.bus.specs.laws.Steps.{done, step-stands, added-there}
 use Rattle.bus.specs.laws.WellFormed.{at-fits}

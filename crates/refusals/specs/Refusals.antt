@@ -27,6 +27,10 @@ unfoldable pub codeOf : List Refusal → ℕ
 codeOf [] = 0
 codeOf (r ∷ l) = least (numberOf r) (codeOf l)
 
+-- what a call comes to: done where no condition holds, else refused with the code
+abbrev pub outcome : {A : Type 0} → List Refusal → (ℕ → A) → A → A
+outcome l refused done = cond (eqb (codeOf l) 0) done (refused (codeOf l))
+
 -- whether the condition of the number k is in the list and holds
 abbrev pub holdsAt : List Refusal → ℕ → Bool
 holdsAt [] k = false

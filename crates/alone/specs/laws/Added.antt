@@ -9,7 +9,7 @@ use lib.Dec.{eqb}
 use lib.ListN.{length}
 use borrow.Author.Tests.{leb-false, ne-eqb, not-false}
 use Rattle.basics.specs.First.{all}
-use Rattle.chip.specs.Kinds.{chipNumbered}
+use Rattle.chip.specs.Kinds.{chipNumbered, isUnknown}
 use Rattle.chip.specs.declared.Chip.{Chip}
 use Rattle.chip.specs.declared.Lookup.{Lookup}
 use Rattle.chip.specs.declared.Lookup.the-variants.{Known, Unknown}
@@ -21,7 +21,7 @@ use Rattle.protocol.specs.Signals.{isOpen}
 use Rattle.refusals.specs.Refusals.{Refusal}
 use Rattle.refusals.specs.laws.Refusals.{NoneHolds, none-code}
 use Rattle.bus.specs.Devices.{busOk, hasDevice, deviceAt, recordAt, withAdded, emptyBus}
-use Rattle.bus.specs.Add.{isUnknown, addedTo}
+use Rattle.bus.specs.Add.{addedTo}
 use Rattle.bus.specs.Place.{placeRefusals, changeRefusals, questionRefusals}
 use Rattle.bus.specs.Events.{stepReply, stepRefusals, stepDone, runBus}
 use Rattle.bus.specs.Promises.{step-code, step-well, empty-well}

@@ -1,13 +1,15 @@
--- A test of each number below another: what a loop over them starts with, what a turn adds, what it ends with; and what it says of each.
+-- A test of each number below another: what a loop over them starts with, what a turn adds, what it ends with; what it says of each; and the first of which it holds.
 use Prim.Native.Nat.{ℕ, zero, suc, _+_, _≤_, _<_}
 use mathlib.Core.Path.{_≡_, refl, sym}
 use mathlib.Core.Logic.{⊎-elim}
-use mathlib.Core.Bool.{Bool, true, false, _&&_, and-false}
+use mathlib.Core.Bool.{Bool, true, false, not, _&&_, and-false}
 use native.Mathlib.Numerals.{add-one}
 use native.Mathlib.Nat.{not-suc-le-zero, le-of-suc-le-suc, eq-or-lt-of-le, suc-inj}
 use native.Mathlib.Omega.{arith}
-use Rattle.basics.specs.Below.{allBelow}
-use Rattle.basics.specs.laws.Logic.{and-left, and-right}
+use lib.Dec.{ltb}
+use borrow.Author.Tests.{lt-ltb, le-ltb, ltb-true, not-true}
+use Rattle.basics.specs.Below.{allBelow, firstBelow}
+use Rattle.basics.specs.laws.Logic.{tested, holds, fails, and-left, and-right}
 
 module _ (p : ℕ → Bool) where
   pub below-none : allBelow 0 p ≡ true
@@ -56,3 +58,45 @@ pub below-alike : (p q : ℕ → Bool) (n : ℕ) → ((i : ℕ) → i < n → p 
 unfolding allBelow
 below-alike p q zero h = refl
 below-alike p q (suc n) h = rw (below-alike p q n (λ i l. h i (omega arith)), h n (omega arith)) refl
+
+-- ---- the first of which a test holds
+
+module _ (p : ℕ → Bool) where
+  pub first-most : (n : ℕ) → firstBelow n p ≤ n
+  unfolding firstBelow
+  first-most zero = omega arith
+  first-most (suc n) = elim (tested (ltb (firstBelow n p) n)) [
+    | holds e ↦ rw e (omega (arith, first-most n))
+    | fails e ↦ rw e (elim (tested (p n)) [ holds f ↦ rw f (omega arith) | fails f ↦ rw f (omega arith) ])
+  ]
+
+  -- it holds of none before it
+  pub first-none : (n : ℕ) → allBelow n (λ k. not (p k)) ≡ true → n ≡ firstBelow n p
+  unfolding firstBelow allBelow
+  first-none zero a = refl
+  first-none (suc n) a =
+      let e = first-none n (and-left (allBelow n (λ k. not (p k))) (not (p n)) a) in
+      let no = not-true (p n) (and-right (allBelow n (λ k. not (p k))) (not (p n)) a) in
+      rw (← e, le-ltb n n (omega arith), no) refl
+
+  pub first-here : (i n : ℕ) → i < n → allBelow i (λ k. not (p k)) ≡ true → p i ≡ true → i ≡ firstBelow n p
+  unfolding firstBelow
+  first-here i zero h a e = absurd (omega arith)
+  first-here i (suc n) h a e =
+      ⊎-elim
+      (λ (q : suc i ≡ suc n).
+      let none : n ≡ firstBelow n p = rw (suc-inj q) at (first-none i a) in
+      rw (← none, le-ltb n n (omega arith), ← suc-inj q, e) refl)
+      (λ (l : suc i < suc n).
+      let f = first-here i n (le-of-suc-le-suc l) a e in
+      rw (← f, lt-ltb i n (le-of-suc-le-suc l)) refl)
+      (eq-or-lt-of-le h)
+
+  -- where there is one, it holds of the first
+  pub first-holds : (n : ℕ) → firstBelow n p < n → p (firstBelow n p) ≡ true
+  unfolding firstBelow
+  first-holds zero h = absurd (omega arith)
+  first-holds (suc n) h = elim (tested (ltb (firstBelow n p) n)) [
+    | holds e ↦ rw e (first-holds n (ltb-true (firstBelow n p) n e))
+    | fails e ↦ rw e (elim (tested (p n)) [ holds f ↦ rw f f | fails f ↦ absurd (omega (arith, rw (e, f) at h)) ])
+  ]

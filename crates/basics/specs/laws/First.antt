@@ -115,10 +115,13 @@ module _ {A : Type 0} (p : A → Bool) where
   all-added (x ∷ l) (suc n) y q e =
       rw (and-left (p x) (all p (take n l)) e) (all-added l n y q (and-right (p x) (all p (take n l)) e))
 
-  -- a test of all, where one more is put behind them
+  -- a test of all of two lists, one behind the other
+  pub all-both : (l m : List A) → all p (l ++ m) ≡ (all p l && all p m)
+  all-both [] m = refl
+  all-both (x ∷ l) m = ap (λ (b : Bool). p x && b) (all-both l m) ∙ sym (and-assoc (p x) (all p l) (all p m))
+
   pub all-behind : (l : List A) (x : A) → all p (l ++ x ∷ []) ≡ (all p l && p x)
-  all-behind [] x = and-true (p x)
-  all-behind (y ∷ l) x = ap (λ (b : Bool). p y && b) (all-behind l x) ∙ sym (and-assoc (p y) (all p l) (p x))
+  all-behind l x = all-both l (x ∷ []) ∙ ap (λ (b : Bool). all p l && b) (and-true (p x))
 
   -- a test of each place is one of each element
   pub all-places : (z : A) (n : ℕ) (l : List A) → n ≤ length l → allBelow n (λ i. p (getD l i z)) ≡ all p (take n l)

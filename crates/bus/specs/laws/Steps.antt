@@ -9,7 +9,7 @@ use lib.Seq.{getD-set-other}
 use borrow.Author.Tests.{eqb-true, eqb-false, leb-false, ltb-true, lt-ltb, not-false}
 use Rattle.basics.specs.laws.Logic.{holds, fails, tested, and-left, and-right}
 use Rattle.basics.specs.laws.First.{map-keeps}
-use Rattle.chip.specs.Kinds.{chipNumbered}
+use Rattle.chip.specs.Kinds.{chipNumbered, isUnknown}
 use Rattle.chip.specs.declared.Lookup.{Lookup}
 use Rattle.chip.specs.declared.Lookup.the-variants.{Known, Unknown}
 use Rattle.device.specs.declared.Device.{Device}
@@ -17,7 +17,7 @@ use Rattle.protocol.specs.Signals.{afterSignal}
 use Rattle.protocol.specs.laws.Kind.{signal-kind}
 use Rattle.refusals.specs.laws.Refusals.{NoneHolds}
 use Rattle.bus.specs.Devices.{busOk, hasDevice, deviceAt}
-use Rattle.bus.specs.Add.{isUnknown, addedTo}
+use Rattle.bus.specs.Add.{addedTo}
 use Rattle.bus.specs.Signals.{signalOf}
 use Rattle.bus.specs.Events.{stepReply, stepRefusals, stepDone}
 use Rattle.bus.specs.laws.Records.{kind-set}

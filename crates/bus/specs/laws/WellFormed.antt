@@ -9,7 +9,7 @@ use lib.ListN.{length, length-set}
 use borrow.Author.Tests.{leb-true, leb-false, le-leb, ltb-true, not-false}
 use Rattle.basics.specs.laws.Logic.{holds, fails, tested, and-left, and-right}
 use Rattle.chip.specs.Kinds.{chipNumbered}
-use Rattle.chip.specs.Addresses.{addressAllowed}
+use Rattle.chip.specs.Addresses.{addressAllowed, isBarred}
 use Rattle.chip.specs.declared.Chip.the-variants.{Pca9635}
 use Rattle.chip.specs.declared.Lookup.{Lookup}
 use Rattle.chip.specs.declared.Lookup.the-variants.{Known, Unknown}
@@ -35,7 +35,7 @@ use Rattle.basics.specs.laws.Below.{below-at}
 use Rattle.basics.specs.laws.First.{map-long, map-keeps, all-at, all-set, all-added, all-mapped}
 use Rattle.basics.specs.laws.Parts.{part-long}
 use Rattle.bus.specs.Devices.{busOk, hasDevice, deviceAt, recordAt, withRecord, withAdded, busAfter}
-use Rattle.bus.specs.Add.{isBarred, addedTo}
+use Rattle.bus.specs.Add.{addedTo}
 use Rattle.bus.specs.Signals.{signalOf}
 use Rattle.bus.specs.Place.{changeRefusals, withChip, afterChange, questionRefusals}
 use Rattle.bus.specs.Events.{stepRefusals, stepDone, stepReply}

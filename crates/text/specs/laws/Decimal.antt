@@ -1,10 +1,10 @@
 -- A number that is written is read back, and what is read as a number is one that is written.
 use Prim.Native.Nat.{ℕ, zero, suc, _+_, _*_, _-_, _/_, _%_, _^_, _≤_, _<_}
-use mathlib.Core.Path.{_≡_, refl, sym, _∙_}
+use mathlib.Core.Path.{_≡_, refl, sym, ap, _∙_}
 use mathlib.Core.Bool.{Bool, true, false, _&&_}
 use mathlib.Core.List.{List, [], _∷_, _++_, append-assoc}
 use mathlib.Core.Logic.{⊎-elim}
-use native.Mathlib.Nat.{pow-suc}
+use native.Mathlib.Nat.{pow-suc, pow-le-pow-right, lt-of-lt-of-le, zero-add}
 use native.Mathlib.Omega.{arith}
 use borrow.Author.Tests.{lt-ltb, le-ltb, le-leb, ltb-true, leb-true}
 use lib.ListN.{length, length-append}
@@ -39,11 +39,22 @@ spelled-length (suc k) n = ⊎-elim (λ (g : n < 10). rw (spelled-one k n g) (om
 pub decimal-length : (n : ℕ) → length (decimal n) ≤ 20
 decimal-length n = spelled-length 20 n
 
+-- places that are not needed, however many
+spelled-less : (d k n : ℕ) → n < 10 ^ suc k → spelled (suc k) n ≡ spelled (suc (d + k)) n
+spelled-less zero k n h = rw (zero-add k) refl
+spelled-less (suc d) k n h =
+    let e : suc d + k ≡ suc (d + k) = omega arith in
+    rw e (spelled-less d k n h ∙ spelled-same (d + k) n (lt-of-lt-of-le h (pow-le-pow-right {n = 10} (omega arith) (omega arith))))
+
+-- a number below 10 ^ (k + 1) has at most k + 1 digits
+pub few-digits : (k n : ℕ) → k < 20 → n < 10 ^ suc k → length (decimal n) ≤ suc k
+few-digits k n h g =
+    let e : suc (19 - k + k) ≡ 20 = omega arith in
+    let same : spelled (suc k) n ≡ decimal n = spelled-less (19 - k) k n g ∙ ap (λ (m : ℕ). spelled m n) e in
+    rw (← same) (spelled-length (suc k) n)
+
 pub short : (n : ℕ) → Short n → length (decimal n) ≤ 15
-short n h =
-    let e : spelled 15 n ≡ spelled 20 n =
-    spelled-same 14 n (omega arith) ∙ spelled-same 15 n (omega arith) ∙ spelled-same 16 n (omega arith) ∙ spelled-same 17 n (omega arith) ∙ spelled-same 18 n (omega arith) in
-    rw (← e) (spelled-length 15 n)
+short n h = few-digits 14 n (omega arith) (omega arith)
 
 -- ---- what is read is what is written
 

@@ -1,15 +1,21 @@
 -- Laws of writing into a lent buffer: its length stays, and one text after the other is both.
-use Prim.Native.Nat.{ℕ, _+_}
+use Prim.Native.Nat.{ℕ, _+_, _≤_}
 use mathlib.Core.Path.{_≡_, sym, ap, _∙_}
-use mathlib.Core.List.{List, _++_, append-assoc}
+use mathlib.Core.List.{List, [], _++_, append-assoc}
+use native.Mathlib.Nat.{add-zero}
 use native.Mathlib.Omega.{arith}
-use lib.ListN.{length, take, drop, length-append, length-take, length-drop}
+use lib.ListN.{length, take, drop, length-append, length-take, length-drop, take-append-drop}
 use lib.Seq.{take-at, drop-at, drop-drop, length-take-le, take-append-seam}
 use Rattle.text.specs.Write.{Written}
 
 pub write-length : (old s new : List ℕ) (at r : ℕ) → Written old at s new r → length new ≡ length old
 write-length old s new at r p =
     ap length (p .text) ∙ simp (length-append, length-take, length-drop) (omega (arith, p .room))
+
+-- nothing is written yet
+pub write-none : (old : List ℕ) (at : ℕ) → at ≤ length old → Written old at [] old at
+write-none old at h =
+    record { room = omega arith; text = rw (add-zero at) (sym (take-append-drop at old)); stop = sym (add-zero at) }
 
 -- what is written at the start
 pub written-first : {old s new : List ℕ} {r : ℕ} → Written old 0 s new r → take r new ≡ s

@@ -3,8 +3,9 @@ use mathlib.Core.Path.{refl, sym, _∙_}
 use native.Mathlib.Omega.{arith}
 use borrow.Author.Tests.{leb-false}
 use Rattle.chip.specs.Kinds.{chipNumbered}
+use Rattle.chip.specs.laws.Addresses.{allowed-byte}
 use Rattle.refusals.specs.laws.Refusals.{accepted}
-use Rattle.bus.specs.laws.Replies.{allowed-byte, answered, turned-away}
+use Rattle.bus.specs.laws.Replies.{answered, turned-away}
 use Rattle.bus.specs.Add.{addRefusals}
 use Rattle.bus.specs.Events.{stepRefusals, stepDone, stepReply}
 use borrow.Author.Needs.{needs}

@@ -3,10 +3,10 @@ use mathlib.Core.Path.{refl, ap, _∙_}
 use mathlib.Core.Bool.{not}
 use mathlib.Core.List.{[], _∷_}
 use lib.Dec.{leb}
-use Rattle.chip.specs.Kinds.{chipNumbered}
+use Rattle.chip.specs.Kinds.{chipNumbered, isUnknown}
+use Rattle.chip.specs.Addresses.{isBarred}
 use Rattle.refusals.specs.Refusals.{refuse}
 use Rattle.refusals.specs.laws.Refusals.{refused-first, refused-more}
-use Rattle.bus.specs.Add.{isUnknown, isBarred}
 use Rattle.bus.specs.Devices.{busOk}
 use borrow.Author.Needs.{needs}
 use Rattle.bus.proofs.add.add_code.Statement.{statement}

@@ -1,7 +1,7 @@
 -- An address is barred by the kind of the chip.
 use borrow.Author.Needs.{needs}
-use Rattle.bus.proofs.add.is_barred.Statement.{statement}
-use Rattle.bus.proofs.add.is_barred.Tie as tie
+use Rattle.chip.proofs.addresses.is_barred.Statement.{statement}
+use Rattle.chip.proofs.addresses.is_barred.Tie as tie
 
 returns : tie.Need-returns
 returns c = simp (c .address-allowed .ensures, c .before .before .found .given .1)
