@@ -1,0 +1,4 @@
+pub mod Setting
+pub mod Reader
+pub mod laws
+pub mod Promises
