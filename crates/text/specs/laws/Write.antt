@@ -1,10 +1,10 @@
 -- Laws of writing into a lent buffer: its length stays, and one text after the other is both.
 use Prim.Native.Nat.{ℕ, _+_, _≤_}
 use mathlib.Core.Path.{_≡_, sym, ap, _∙_}
-use mathlib.Core.List.{List, [], _++_, append-assoc}
+use mathlib.Core.List.{List, [], _++_, append-assoc, append-nil}
 use native.Mathlib.Nat.{add-zero}
 use native.Mathlib.Omega.{arith}
-use lib.ListN.{length, take, drop, length-append, length-take, length-drop, take-append-drop}
+use lib.ListN.{length, take, drop, length-append, length-take, length-drop, take-append-drop, drop-of-length-le}
 use lib.Seq.{take-at, drop-at, drop-drop, length-take-le, take-append-seam}
 use Rattle.text.specs.Write.{Written}
 
@@ -20,6 +20,13 @@ write-none old at h =
 -- what is written at the start
 pub written-first : {old s new : List ℕ} {r : ℕ} → Written old 0 s new r → take r new ≡ s
 written-first {old} {s} {new} {r} w = let e : r ≡ length s = omega (arith, w .stop) in rw (w .text, e) (take-append-seam s _)
+
+pub first-long : {old s new : List ℕ} {r : ℕ} → Written old 0 s new r → r ≡ length (take r new)
+first-long {old} {s} {new} {r} w = let e : r ≡ length s = omega (arith, w .stop) in e ∙ ap length (sym (written-first w))
+
+-- what fills the buffer
+pub written-all : {old s new : List ℕ} {r : ℕ} → Written old 0 s new r → length s ≡ length old → new ≡ s
+written-all {old} {s} {new} {r} w e = w .text ∙ rw (drop-of-length-le old {i = 0 + length s} (omega arith), append-nil)
 
 -- one after the other
 pub then : {old s mid t new : List ℕ} {at r q : ℕ} → Written old at s mid r → Written mid r t new q → Written old at (s ++ t) new q

@@ -1,0 +1,5 @@
+pub mod Layout
+pub mod Saved
+pub mod Calls
+pub mod History
+pub mod laws

@@ -1,0 +1,5 @@
+pub mod Bytes
+pub mod Saved
+pub mod Layout
+pub mod Calls
+pub mod History
