@@ -23,9 +23,12 @@ refusedWith s k = record { code = k; value = 0; state = s }
 abbrev pub doneWith : {S : Type 0} → ℕ → S → Reply S
 doneWith v s = record { code = 0; value = v; state = s }
 
--- what a call answers, with what it leaves of what was lent
+-- what a call answers, with the bytes that it leaves
+abbrev pub replied : ℕ → ℕ → List ℕ → Reply (List ℕ)
+replied code value lent = record { code = code; value = value; state = lent }
+
 abbrev pub answered : Answer → List ℕ → Reply (List ℕ)
-answered a lent = record { code = a .code; value = a .value; state = lent }
+answered a lent = replied (a .code) (a .value) lent
 
 -- over any state that holds versions: whether it is of the right shape, what it holds, and it with one version more
 pub record Storage (S : Type 0) : Type 0 where

@@ -1,7 +1,8 @@
 -- What calls put into a store, by the calls alone: a list of versions, and no bytes.
 use Prim.Native.Nat.{ℕ, _+_}
 use mathlib.Core.Path.{_≡_}
-use mathlib.Core.Bool.{true}
+use mathlib.Core.Bool.{true, cond}
+use lib.Dec.{eqb}
 use mathlib.Core.List.{List, [], _∷_, _++_}
 use lib.ListN.{length}
 use Rattle.store.specs.Saved.{Saved, newest, found}
@@ -38,3 +39,13 @@ pub record Alike (l m : List Saved) : Type 0 where
 pub record Holds (store : List ℕ) (l : List Saved) : Type 0 where
   pub shape : storeOk store ≡ true
   pub versions : Alike (savedOf store) l
+
+-- the versions of a table, in order
+unfoldable pub versionsOf : ℕ → List Saved → List ℕ
+versionsOf table [] = []
+versionsOf table (e ∷ l) = cond (eqb (e .table) table) (e .version ∷ versionsOf table l) (versionsOf table l)
+
+-- m is l with versions behind it
+pub record Grows (l m : List Saved) : Type 0 where
+  pub more : List Saved
+  pub grown : m ≡ l ++ more

@@ -3,3 +3,4 @@ pub mod Saved
 pub mod Calls
 pub mod History
 pub mod laws
+pub mod Promises

@@ -5,7 +5,7 @@ use mathlib.Core.Bool.{Bool, true, false, not}
 use mathlib.Core.List.{List, [], _∷_, _++_, append-assoc}
 use native.Mathlib.Nat.{zero-add}
 use native.Mathlib.Omega.{arith}
-use lib.Dec.{leb, ltb}
+use lib.Dec.{leb, ltb, eqb}
 use lib.ListN.{length, take, drop}
 use borrow.Author.Tests.{eq-eqb, ne-eqb, le-leb, lt-leb, lt-ltb, le-ltb, leb-true, leb-false, ltb-true, ltb-false, not-false}
 use Rattle.basics.specs.laws.Logic.{tested, holds, fails}
@@ -21,7 +21,7 @@ use Rattle.text.specs.Write.{Written}
 use Rattle.text.specs.laws.Write.{written-first}
 use Rattle.store.specs.Saved.{saved, newest, Found, nothing, just, isNothing, found}
 use Rattle.store.specs.Layout.{storeSize, settingIn, placeOf, place, storeOk, savedOf, freePlace, freshStore}
-use Rattle.store.specs.Calls.{Storage, bytes, refusedWith, doneWith, next, putRefusals, saveRefusals, saveReply, again, returnRefusals, returnReply, readRefusals, readReply, freshReply}
+use Rattle.store.specs.Calls.{Reply, replied, Storage, bytes, refusedWith, doneWith, next, putRefusals, saveRefusals, saveReply, again, returnRefusals, returnReply, readRefusals, readReply, freshRefusals, freshReply}
 use Rattle.store.specs.laws.Layout.{ok-long, heldPlace, found-place, found-held, full-is}
 use Rattle.store.specs.declared.room.Room.{Room}
 
@@ -34,6 +34,13 @@ fresh-refused buffer d = rw (ne-eqb (length buffer) storeSize d) refl
 pub fresh-done : (buffer : List ℕ) → length buffer ≡ storeSize → freshReply buffer ≡ doneWith 0 freshStore
 unfolding freshReply codeOf least
 fresh-done buffer e = rw (eq-eqb (length buffer) storeSize e) refl
+
+-- its value is 0, done or refused
+pub fresh-value : (buffer lent : List ℕ) (code value : ℕ) → replied code value lent ≡ freshReply buffer → replied code 0 lent ≡ freshReply buffer
+unfolding freshReply
+fresh-value buffer lent code value e =
+    let zero : freshReply buffer .value ≡ 0 = elim (tested (eqb (codeOf (freshRefusals buffer)) 0)) [ holds t ↦ rw t refl | fails t ↦ rw t refl ] in
+    ap (λ (v : ℕ). replied code v lent) (sym (ap (λ (r : Reply (List ℕ)). r .value) e ∙ zero)) ∙ e
 
 -- ---- one version more
 

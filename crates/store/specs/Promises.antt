@@ -1,0 +1,127 @@
+-- Promises on the store: the number of a refusal and what it leaves, the shape of a store, and what any sequence of calls puts in and reads.
+-- Where a statement is over a storage `st`, it holds of the bytes of a store and of a list of versions alike.
+use Prim.Native.Nat.{ℕ, _+_, _≤_, _<_}
+use mathlib.Core.Path.{_≡_, refl}
+use mathlib.Core.Bool.{true}
+use mathlib.Core.List.{List, [], _∷_, _++_}
+use lib.ListN.{length, drop}
+use Rattle.basics.specs.Tabulate.{tabulate}
+use Rattle.basics.specs.laws.Logic.{holds}
+use Rattle.basics.specs.laws.Parts.{part-other}
+use Rattle.refusals.specs.laws.Refusals.{Exact}
+use Rattle.refusals.specs.laws.Outcome.{outcome-exact, outcome-refused}
+use Rattle.setting.specs.declared.Setting.{Setting}
+use Rattle.store.specs.Saved.{Saved, newest, nothing, just, found}
+use Rattle.store.specs.Layout.{place, storeOk, savedOf, freePlace, withSaved, freshStore}
+use Rattle.store.specs.Calls.{Storage, bytes, refusedWith, doneWith, saveRefusals, saveReply, returnRefusals, returnReply, readRefusals, readReply, freshRefusals, freshReply}
+use Rattle.store.specs.History.{Call, Save, Return, after, afterAll, listed, Holds, versionsOf, Grows}
+use Rattle.store.specs.laws.Fresh.{fresh-ok, fresh-holds-nothing}
+use Rattle.store.specs.laws.History.{save-agree, return-agree, read-same, after-holds, all-hold}
+use Rattle.store.specs.laws.Listed.{all-grow, all-numbered}
+use Rattle.store.specs.laws.Readings.{saved-text, returned-same, kept-same}
+
+-- ---- the number of a refusal, and what it leaves
+
+module _ {S : Type 0} (st : Storage S) (s : S) (table : ℕ) where
+  pub save-exact : (text : List ℕ) → Exact (saveRefusals st s table text) (saveReply st s table text .code)
+  unfolding saveReply
+  save-exact text = outcome-exact (saveRefusals st s table text) (refusedWith s) _ (λ r. r .code) (λ k. refl) refl
+
+  pub return-exact : (version : ℕ) → Exact (returnRefusals st s table version) (returnReply st s table version .code)
+  unfolding returnReply
+  return-exact version = outcome-exact (returnRefusals st s table version) (refusedWith s) _ (λ r. r .code) (λ k. refl) refl
+
+  pub read-exact : (version : ℕ) (buffer : List ℕ) → Exact (readRefusals st s table version buffer) (readReply st s table version buffer .code)
+  unfolding readReply
+  read-exact version buffer = outcome-exact (readRefusals st s table version buffer) (refusedWith buffer) _ (λ r. r .code) (λ k. refl) refl
+
+  -- refused: the value is 0, and what was lent is as it was
+  pub save-refusal : (text : List ℕ) → (saveReply st s table text .code ≡ 0 → ⊥) → saveReply st s table text ≡ refusedWith s (saveReply st s table text .code)
+  unfolding saveReply
+  save-refusal text = outcome-refused (saveRefusals st s table text) (refusedWith s) _ (λ r. r .code) (λ k. refl) refl
+
+  pub return-refusal : (version : ℕ) → (returnReply st s table version .code ≡ 0 → ⊥) → returnReply st s table version ≡ refusedWith s (returnReply st s table version .code)
+  unfolding returnReply
+  return-refusal version = outcome-refused (returnRefusals st s table version) (refusedWith s) _ (λ r. r .code) (λ k. refl) refl
+
+  pub read-refusal : (version : ℕ) (buffer : List ℕ) → (readReply st s table version buffer .code ≡ 0 → ⊥) → readReply st s table version buffer ≡ refusedWith buffer (readReply st s table version buffer .code)
+  unfolding readReply
+  read-refusal version buffer = outcome-refused (readRefusals st s table version buffer) (refusedWith buffer) _ (λ r. r .code) (λ k. refl) refl
+
+pub fresh-exact : (buffer : List ℕ) → Exact (freshRefusals buffer) (freshReply buffer .code)
+unfolding freshReply
+fresh-exact buffer = outcome-exact (freshRefusals buffer) (refusedWith buffer) _ (λ r. r .code) (λ k. refl) refl
+
+pub fresh-refusal : (buffer : List ℕ) → (freshReply buffer .code ≡ 0 → ⊥) → freshReply buffer ≡ refusedWith buffer (freshReply buffer .code)
+unfolding freshReply
+fresh-refusal buffer = outcome-refused (freshRefusals buffer) (refusedWith buffer) _ (λ r. r .code) (λ k. refl) refl
+
+-- ---- the shape of a store
+
+-- a store of the right shape holds what its places say
+own : (store : List ℕ) → storeOk store ≡ true → Holds store (savedOf store)
+own store ok = record { shape = ok; versions = record { same-found = λ t v. refl; same-newest = λ t. refl; same-many = refl } }
+
+-- a fresh store is of the right shape, and holds nothing
+pub fresh-holds : Holds freshStore []
+fresh-holds = rw (fresh-holds-nothing 256) at (own freshStore fresh-ok)
+
+-- a store of the right shape stays so
+pub shape-stays : (store : List ℕ) (c : Call) → storeOk store ≡ true → storeOk (after bytes store c) ≡ true
+shape-stays store c ok = after-holds store (savedOf store) (own store ok) c .shape
+
+-- a version more writes one place: every other stays
+pub others-stay : (store : List ℕ) (e : Saved) (i : ℕ) → i < 256 → (i ≡ freePlace store → ⊥) → place i (withSaved e store) ≡ place i store
+others-stay store e i h d = part-other 256 40 (freePlace store) i _ store h d
+
+-- ---- any sequence of calls
+
+-- from a fresh store on, the store holds exactly what the calls put in
+pub history : (cs : List Call) → Holds (afterAll bytes freshStore cs) (afterAll listed [] cs)
+history cs = all-hold freshStore [] fresh-holds cs
+
+-- and each further call has the answer that the list gives
+module _ (cs : List Call) (table : ℕ) where
+  abbrev store : List ℕ
+  store = afterAll bytes freshStore cs
+
+  abbrev list : List Saved
+  list = afterAll listed [] cs
+
+  pub save-answer : (text : List ℕ) → (saveReply bytes store table text .code ≡ saveReply listed list table text .code) × (saveReply bytes store table text .value ≡ saveReply listed list table text .value)
+  save-answer text = let a = save-agree store list (history cs) table text in (a .same-code, a .same-value)
+
+  pub return-answer : (version : ℕ) → (returnReply bytes store table version .code ≡ returnReply listed list table version .code) × (returnReply bytes store table version .value ≡ returnReply listed list table version .value)
+  return-answer version = let a = return-agree store list (history cs) table version in (a .same-code, a .same-value)
+
+  pub read-answer : (version : ℕ) (buffer : List ℕ) → readReply bytes store table version buffer ≡ readReply listed list table version buffer
+  read-answer version buffer = read-same store list (history cs) table version buffer
+
+-- the list only grows, so nothing earlier is altered
+pub list-grows : (l : List Saved) (cs : List Call) → Grows l (afterAll listed l cs)
+list-grows = all-grow
+
+-- and the versions of a table are 1, 2, 3, .. in the order of their saves and returns
+pub versions-in-order : (cs : List Call) (table : ℕ) → versionsOf table (afterAll listed [] cs) ≡ tabulate (newest table (afterAll listed [] cs)) (λ i. i + 1)
+unfolding versionsOf newest tabulate
+versions-in-order cs table = all-numbered [] (λ t. refl) cs table
+
+-- ---- what a version reads as, in any store of the right shape
+
+module _ (store : List ℕ) (ok : storeOk store ≡ true) (table : ℕ) where
+  -- what a save took in is read back, byte by byte, whatever calls come between
+  pub saved-read : (text : List ℕ) (cs : List Call) (buffer : List ℕ) → saveReply bytes store table text .code ≡ 0 → length text ≤ length buffer
+      → readReply bytes (afterAll bytes store (Save table text ∷ cs)) table (saveReply bytes store table text .value) buffer ≡ doneWith (length text) (text ++ drop (length text) buffer)
+  unfolding afterAll
+  saved-read text cs buffer z k = saved-text store (savedOf store) (own store ok) table text cs buffer z k
+
+  -- the version that a return made reads as the one that it went back to
+  pub returned-read : (version : ℕ) (cs : List Call) (buffer : List ℕ) → returnReply bytes store table version .code ≡ 0
+      → readReply bytes (afterAll bytes store (Return table version ∷ cs)) table (returnReply bytes store table version .value) buffer ≡ readReply bytes store table version buffer
+  unfolding afterAll
+  returned-read version cs buffer z = returned-same store (savedOf store) (own store ok) table version cs buffer z
+
+  -- a version that is held reads the same after any calls
+  pub kept-read : (version : ℕ) (setting : Setting) (cs : List Call) (buffer : List ℕ) → found table version (savedOf store) ≡ just setting
+      → readReply bytes (afterAll bytes store cs) table version buffer ≡ readReply bytes store table version buffer
+  kept-read version setting cs buffer f = kept-same store (savedOf store) (own store ok) table version setting cs buffer f

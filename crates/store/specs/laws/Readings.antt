@@ -1,0 +1,103 @@
+-- What a version reads as, after any further calls.
+use Prim.Native.Nat.{ℕ, _≤_}
+use mathlib.Core.Path.{_≡_, refl, sym, ap, _∙_}
+use mathlib.Core.Bool.{false, true≢false}
+use mathlib.Core.List.{List, [], _∷_, _++_}
+use native.Mathlib.Omega.{arith}
+use lib.ListN.{length, drop}
+use Rattle.refusals.specs.Refusals.{codeOf}
+use Rattle.refusals.specs.laws.Refusals.{none-both, none-code, accepted}
+use Rattle.refusals.specs.laws.Outcome.{outcome-code}
+use Rattle.setting.specs.Reader.{textRefusals, settingOf}
+use Rattle.setting.specs.Setting.{settingText}
+use Rattle.setting.specs.Promises.{read-setting}
+use Rattle.setting.specs.declared.Setting.{Setting}
+use Rattle.store.specs.Saved.{Saved, saved, Found, nothing, just, isNothing, found}
+use Rattle.store.specs.Calls.{Reply, Storage, bytes, doneWith, refusedWith, next, putRefusals, saveRefusals, saveReply, again, returnRefusals, returnReply, readRefusals, readReply}
+use Rattle.store.specs.History.{Call, after, afterAll, listed, Holds}
+use Rattle.store.specs.laws.Calls.{save-done, return-done, read-done}
+use Rattle.store.specs.laws.History.{Agree, save-agree, return-agree, read-same, all-hold}
+use Rattle.store.specs.laws.Listed.{all-grow, found-stays, found-next}
+
+-- a code of 0 is one of the refusals
+pub save-accepted : {S : Type 0} (st : Storage S) (s : S) (table : ℕ) (text : List ℕ) → saveReply st s table text .code ≡ 0 → codeOf (saveRefusals st s table text) ≡ 0
+unfolding saveReply
+save-accepted st s table text z = sym (outcome-code (saveRefusals st s table text) (refusedWith s) _ (λ r. r .code) (λ k. refl) refl) ∙ z
+
+pub return-accepted : {S : Type 0} (st : Storage S) (s : S) (table version : ℕ) → returnReply st s table version .code ≡ 0 → codeOf (returnRefusals st s table version) ≡ 0
+unfolding returnReply
+return-accepted st s table version z = sym (outcome-code (returnRefusals st s table version) (refusedWith s) _ (λ r. r .code) (λ k. refl) refl) ∙ z
+
+-- what is read is what is found
+read-by-found : (l m : List Saved) (table v w : ℕ) (buffer : List ℕ) → found table v l ≡ found table w m → readReply listed l table v buffer ≡ readReply listed m table w buffer
+unfolding readReply readRefusals
+read-by-found l m table v w buffer e = rw e refl
+
+module _ (store : List ℕ) (l : List Saved) (h : Holds store l) (table : ℕ) where
+  -- a version that is held
+  pub kept-same : (version : ℕ) (setting : Setting) (cs : List Call) (buffer : List ℕ) → found table version l ≡ just setting
+      → readReply bytes (afterAll bytes store cs) table version buffer ≡ readReply bytes store table version buffer
+  kept-same version setting cs buffer f =
+      read-same (afterAll bytes store cs) (afterAll listed l cs) (all-hold store l h cs) table version buffer
+      ∙ read-by-found (afterAll listed l cs) l table version version buffer (found-stays table version l (afterAll listed l cs) setting (all-grow l cs) f ∙ sym f)
+      ∙ sym (read-same store l h table version buffer)
+
+  -- the next version of a table, after a call that put it in
+  module _ (made : List ℕ) (setting : Setting) (g : Holds made (l ++ saved table (next listed l table) setting ∷ [])) (cs : List Call) (buffer : List ℕ) where
+    abbrev list : List Saved
+    list = afterAll listed (l ++ saved table (next listed l table) setting ∷ []) cs
+
+    found-made : found table (next listed l table) list ≡ just setting
+    found-made = found-stays table (next listed l table) _ list setting (all-grow _ cs) (found-next table l setting)
+
+    made-read : readReply bytes (afterAll bytes made cs) table (next listed l table) buffer ≡ readReply listed list table (next listed l table) buffer
+    made-read = read-same (afterAll bytes made cs) list (all-hold made _ g cs) table (next listed l table) buffer
+
+    pub made-text : length (settingText setting) ≤ length buffer
+        → readReply bytes (afterAll bytes made cs) table (next listed l table) buffer ≡ doneWith (length (settingText setting)) (settingText setting ++ drop (length (settingText setting)) buffer)
+    made-text k = made-read ∙ read-done listed list table (next listed l table) buffer setting refl found-made k
+
+    pub made-again : (version : ℕ) → found table version l ≡ just setting → readReply bytes (afterAll bytes made cs) table (next listed l table) buffer ≡ readReply bytes store table version buffer
+    made-again version f =
+        made-read
+        ∙ read-by-found list l table (next listed l table) version buffer (found-made ∙ sym f)
+        ∙ sym (read-same store l h table version buffer)
+
+  -- a save
+  pub saved-text : (text : List ℕ) (cs : List Call) (buffer : List ℕ) → saveReply bytes store table text .code ≡ 0 → length text ≤ length buffer
+      → readReply bytes (afterAll bytes (saveReply bytes store table text .state) cs) table (saveReply bytes store table text .value) buffer ≡ doneWith (length text) (text ++ drop (length text) buffer)
+  unfolding saveRefusals textRefusals
+  saved-text text cs buffer z k =
+      let a = save-agree store l h table text in
+      let zl = save-accepted listed l table text (sym (a .same-code) ∙ z) in
+      let done = save-done listed l table text zl in
+      let none = none-both (textRefusals text) (putRefusals listed l table _) (accepted (saveRefusals listed l table text) refl zl) in
+      let is : text ≡ settingText (settingOf text) = read-setting text (none-code (textRefusals text) (none .0)) .0 in
+      let value = a .same-value ∙ ap (λ (r : Reply (List Saved)). r .value) done in
+      ap (λ (v : ℕ). readReply bytes (afterAll bytes (saveReply bytes store table text .state) cs) table v buffer) value
+      ∙ made-text (saveReply bytes store table text .state) (settingOf text) (rw done at (a .same-state)) cs buffer (omega (arith, ap length is))
+      ∙ ap (λ (t : List ℕ). doneWith (length t) (t ++ drop (length t) buffer)) (sym is)
+
+  -- a return
+  pub returned-same : (version : ℕ) (cs : List Call) (buffer : List ℕ) → returnReply bytes store table version .code ≡ 0
+      → readReply bytes (afterAll bytes (returnReply bytes store table version .state) cs) table (returnReply bytes store table version .value) buffer ≡ readReply bytes store table version buffer
+  unfolding returnRefusals
+  returned-same version cs buffer z = go (found table version l) refl
+    where
+      a : Agree (returnReply bytes store table version) (returnReply listed l table version)
+      a = return-agree store l h table version
+
+      zl : codeOf (returnRefusals listed l table version) ≡ 0
+      zl = return-accepted listed l table version (sym (a .same-code) ∙ z)
+
+      done : returnReply listed l table version ≡ doneWith (next listed l table) (again listed l table (found table version l))
+      done = return-done listed l table version zl
+
+      there : isNothing (found table version l) ≡ false
+      there = accepted (returnRefusals listed l table version) refl zl .1 .1 .0
+
+      go : (f : Found) → found table version l ≡ f → readReply bytes (afterAll bytes (returnReply bytes store table version .state) cs) table (returnReply bytes store table version .value) buffer ≡ readReply bytes store table version buffer
+      go nothing q = absurd (true≢false (sym (ap isNothing q) ∙ there))
+      go (just setting) q =
+          ap (λ (v : ℕ). readReply bytes (afterAll bytes (returnReply bytes store table version .state) cs) table v buffer) (a .same-value ∙ ap (λ (r : Reply (List Saved)). r .value) done)
+          ∙ made-again (returnReply bytes store table version .state) setting (rw (done, q) at (a .same-state)) cs buffer version q
