@@ -51,7 +51,7 @@ impl Random {
         &items[self.index(items.len())]
     }
 
-    fn byte(&mut self) -> u8 {
+    pub fn byte(&mut self) -> u8 {
         self.below(256) as u8
     }
 }
@@ -106,7 +106,7 @@ struct Generator {
 }
 
 /// Bytes that often lie at an edge of a rule.
-const EDGE_BYTES: [u8; 10] = [0, 1, 2, 64, 127, 128, 129, 192, 254, 255];
+pub const EDGE_BYTES: [u8; 10] = [0, 1, 2, 64, 127, 128, 129, 192, 254, 255];
 
 /// Numbers that often lie at an edge of a rule, or do after being cut to
 /// fewer bits.
@@ -1253,7 +1253,7 @@ fn likely_byte(random: &mut Random) -> u8 {
 }
 
 /// Flips, inserts, deletes, replaces or doubles one to three bytes.
-fn damage_bytes(random: &mut Random, line: &mut Vec<u8>) {
+pub fn damage_bytes(random: &mut Random, line: &mut Vec<u8>) {
     for _ in 0..1 + random.below(3) {
         if line.is_empty() {
             return;

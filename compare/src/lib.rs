@@ -7,6 +7,7 @@ pub mod lit;
 pub mod model;
 pub mod replay;
 pub mod sort;
+pub mod store;
 pub mod text;
 pub mod timing;
 pub mod totals;

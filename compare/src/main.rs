@@ -2,10 +2,12 @@
 //! check` compares the twin with the model, `compare time` times both, `compare
 //! lit` times their lit counts, and `compare wait` their waits and puts.
 //! `compare replay` is `compare check` for recorded logs, whose lines bear
-//! stamps.
+//! stamps, and `compare store` compares the calls on a store of settings.
 
 use compare::check::Twin;
 use compare::sort::Sort;
+use compare::store::calls::{Call, Left, CODES};
+use compare::store::{self, Lent};
 use compare::timing::{LineTime, LineTimes};
 use compare::{check, lit, text, timing, wait};
 use std::env;
@@ -17,6 +19,7 @@ const USAGE: &str = "usage: compare model [replay]
        compare generate [replay] SEED LINES DAMAGE_PERCENT
        compare check PROGRAM FIRST_SEED SEEDS LINES
        compare replay PROGRAM FIRST_SEED SEEDS LINES
+       compare store FIRST_SEED SEEDS CALLS
        compare time LINES RUNS
        compare lit PROGRAM RUNS
        compare wait PROGRAM RUNS";
@@ -52,6 +55,7 @@ fn run(arguments: &[&str]) -> Option<io::Result<ExitCode>> {
             let sort = Sort::Stamped;
             check_twin(Twin { sort, program }, numbers_of(numbers)?)
         }
+        ["store", ref numbers @ ..] => check_store(numbers_of(numbers)?),
         ["time", ref numbers @ ..] => match numbers_of(numbers)? {
             [_, 0] => return None,
             [lines, runs] => time_both(lines as usize, runs as usize),
@@ -126,6 +130,73 @@ fn print_difference(pair: check::Pair, log: &[u8], expected: &[u8], actual: &[u8
     }
     println!("  {one}: {}", check::line_text(expected, number));
     println!("  {other}: {}", check::line_text(actual, number));
+}
+
+fn check_store([first, seeds, calls]: [u64; 3]) -> io::Result<ExitCode> {
+    if lamptwin::store_size() != store::SIZE {
+        return Err(io::Error::other("the library's store has another size"));
+    }
+    let outcome = store::check::compare(Call::by_library, first, seeds, calls);
+    print_codes(&outcome);
+    if let Some(mismatch) = &outcome.mismatch {
+        print_store_mismatch(mismatch);
+        return Ok(ExitCode::FAILURE);
+    }
+    let unmet = outcome.unmet();
+    if seeds < store::check::ENOUGH_SEEDS || unmet.is_empty() {
+        return Ok(ExitCode::SUCCESS);
+    }
+    for (name, code) in unmet {
+        println!("no {name} was answered with code {code}");
+    }
+    Ok(ExitCode::FAILURE)
+}
+
+fn print_codes(outcome: &store::check::Outcome) {
+    println!(
+        "compared {} sequences, {} calls on a store",
+        outcome.sequences, outcome.calls
+    );
+    for (name, codes) in CODES {
+        let times = |code: &u64| format!("{code}: {}", outcome.times(name, *code));
+        let times: Vec<String> = codes.iter().map(times).collect();
+        println!("  {name:<6} by code {}", times.join(", "));
+    }
+}
+
+fn print_store_mismatch(mismatch: &store::check::Mismatch) {
+    println!(
+        "mismatch at seed {}, call {}",
+        mismatch.seed, mismatch.number
+    );
+    print_left(&mismatch.call, &mismatch.expected, &mismatch.actual);
+    let short = store::check::shorten(Call::by_library, mismatch);
+    println!(
+        "shortest failing store found, of {} bytes, 0 but for:",
+        short.len()
+    );
+    for place in store::check::places_in_use(&short) {
+        println!("{place}");
+    }
+    let expected = mismatch.call.by_model(&mut Lent::new(&short));
+    let actual = mismatch.call.by_library(&short);
+    print_left(&mismatch.call, &expected, &actual);
+}
+
+fn print_left(call: &Call, expected: &Left, actual: &Left) {
+    println!("  call:    {call}");
+    for (name, left) in [("model:  ", expected), ("library:", actual)] {
+        println!("  {name} {}", store::check::answer_text(left.answer));
+    }
+    let parts = [
+        ("store: ", &expected.store, &actual.store),
+        ("buffer:", &expected.buffer, &actual.buffer),
+    ];
+    for (name, expected, actual) in parts {
+        if let Some(text) = store::check::byte_difference(expected, actual) {
+            println!("  {name}  {text}");
+        }
+    }
 }
 
 fn time_both(lines: usize, runs: usize) -> io::Result<ExitCode> {

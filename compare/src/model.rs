@@ -125,7 +125,7 @@ pub struct Bus {
 
 /// Gives the first refusal that holds. The list is in order of the numbers:
 /// "Where several hold, the smallest number."
-fn refuse_if(conditions: &[(u64, bool)]) -> Result<(), u64> {
+pub fn refuse_if(conditions: &[(u64, bool)]) -> Result<(), u64> {
     match conditions.iter().find(|(_, holds)| *holds) {
         Some((number, _)) => Err(*number),
         None => Ok(()),
