@@ -1,6 +1,7 @@
 //! The lamp twin for Rust: the answers to a whole log of bus events, from an
-//! empty bus. The work is done by the proved static library; this wrapper
-//! tests what its declaration cannot say.
+//! empty bus, and a store of the settings that tables had, with versions. The
+//! work is done by the proved static library; this wrapper tests what its
+//! declaration cannot say.
 //!
 //! `./lamptwin --help` lists the lines of a log. An answer line is
 //! `n=LINE code=CODE value=VALUE`; a put's value has bit i set exactly when
@@ -11,6 +12,19 @@
 //! last accepted line goes to every driver before the event. Each output of a
 //! board has two totals: the ticks or steps of all accepted waits, a line's
 //! time among them, at which its lamp was lit, and those at which it was not.
+//!
+//! A setting says how a board was set up: the lines `chip=KIND`,
+//! `addr=ADDRESS`, then `r<number>=BYTE` for each writable register in map
+//! order, r0 to r27 of a PCA9635, r0 to r17 of a PCA9634, r1 to r6 of a PCA9531
+//! or PCA9551, each line with its line feed and each number a decimal without
+//! leading zeros. A store is `STORE_SIZE` bytes of the caller's that keep up to
+//! 256 versions of settings, numbered from 1 on for each of the tables 0 to 63;
+//! docs/STORE.md has its bytes.
+
+mod store;
+
+pub use store::{store_fresh, store_read, store_return, store_save, store_size};
+pub use store::{Refused, SETTING_ROOM, STORE_SIZE};
 
 use std::fmt;
 
