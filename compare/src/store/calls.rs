@@ -66,18 +66,7 @@ impl Call {
     /// What the model foretells. The lent store is as afterwards.
     pub fn by_model(&self, lent: &mut Lent) -> Left {
         let mut buffer = self.buffer();
-        let answer = match *self {
-            Call::Fresh => lent.make_fresh(),
-            Call::Save { table, ref text } => lent.save(table, text),
-            Call::Return { table, version } => lent.return_to(table, version),
-            Call::Read { table, version, .. } => {
-                let text = lent.read(table, version, buffer.len());
-                text.map(|text| {
-                    buffer[..text.len()].copy_from_slice(&text);
-                    text.len() as u64
-                })
-            }
-        };
+        let answer = self.answer_by_model(lent, &mut buffer);
         Left {
             answer,
             store: lent.bytes(),
@@ -89,20 +78,42 @@ impl Call {
     pub fn by_library(&self, store: &[u8]) -> Left {
         let mut store = store.to_vec();
         let mut buffer = self.buffer();
-        let answer = match *self {
-            Call::Fresh => lamptwin::store_fresh(&mut store).map(|()| 0),
-            Call::Save { table, ref text } => lamptwin::store_save(&mut store, table, text),
-            Call::Return { table, version } => lamptwin::store_return(&mut store, table, version),
-            Call::Read { table, version, .. } => {
-                let length = lamptwin::store_read(&store, table, version, &mut buffer);
-                length.map(|length| length as u64)
-            }
-        };
+        let answer = self.answer_by_library(&mut store, &mut buffer);
         Left {
-            answer: answer.map_err(|refused| refused.code),
+            answer,
             store,
             buffer,
         }
+    }
+
+    /// The model's answer. What is lent is as afterwards.
+    pub fn answer_by_model(&self, lent: &mut Lent, buffer: &mut [u8]) -> Answer {
+        match *self {
+            Call::Fresh => lent.make_fresh(),
+            Call::Save { table, ref text } => lent.save(table, text),
+            Call::Return { table, version } => lent.return_to(table, version),
+            Call::Read { table, version, .. } => {
+                let text = lent.read(table, version, buffer.len());
+                text.map(|text| {
+                    buffer[..text.len()].copy_from_slice(&text);
+                    text.len() as u64
+                })
+            }
+        }
+    }
+
+    /// The linked library's answer. What is lent is as afterwards.
+    pub fn answer_by_library(&self, store: &mut [u8], buffer: &mut [u8]) -> Answer {
+        let answer = match *self {
+            Call::Fresh => lamptwin::store_fresh(store).map(|()| 0),
+            Call::Save { table, ref text } => lamptwin::store_save(store, table, text),
+            Call::Return { table, version } => lamptwin::store_return(store, table, version),
+            Call::Read { table, version, .. } => {
+                let length = lamptwin::store_read(store, table, version, buffer);
+                length.map(|length| length as u64)
+            }
+        };
+        answer.map_err(|refused| refused.code)
     }
 }
 
