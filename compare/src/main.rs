@@ -2,11 +2,13 @@
 //! check` compares the twin with the model, `compare time` times both, `compare
 //! lit` times their lit counts, and `compare wait` their waits and puts.
 //! `compare replay` is `compare check` for recorded logs, whose lines bear
-//! stamps, and `compare store` compares the calls on a store of settings.
+//! stamps, `compare store` compares the calls on a store of settings, and
+//! `compare store-time` times them.
 
 use compare::check::Twin;
 use compare::sort::Sort;
 use compare::store::calls::{Call, Left, CODES};
+use compare::store::timing::Times;
 use compare::store::{self, Lent};
 use compare::timing::{LineTime, LineTimes};
 use compare::{check, lit, text, timing, wait};
@@ -22,7 +24,8 @@ const USAGE: &str = "usage: compare model [replay]
        compare store FIRST_SEED SEEDS CALLS
        compare time LINES RUNS
        compare lit PROGRAM RUNS
-       compare wait PROGRAM RUNS";
+       compare wait PROGRAM RUNS
+       compare store-time RUNS";
 
 fn main() -> ExitCode {
     let arguments: Vec<String> = env::args().skip(1).collect();
@@ -67,6 +70,10 @@ fn run(arguments: &[&str]) -> Option<io::Result<ExitCode>> {
         ["wait", program, ref numbers @ ..] => match numbers_of(numbers)? {
             [0] => return None,
             [runs] => time_waits(program, runs as usize),
+        },
+        ["store-time", ref numbers @ ..] => match numbers_of(numbers)? {
+            [0] => return None,
+            [runs] => time_store(runs as usize),
         },
         _ => return None,
     })
@@ -275,6 +282,21 @@ fn time_replays(runs: usize) {
             library / model,
         );
     }
+}
+
+fn time_store(runs: usize) -> io::Result<ExitCode> {
+    println!("calls on a store that holds 255 versions, or 256 where one is refused:");
+    println!("the time of one, the model's on what it keeps, the library's on the bytes, and over the model's");
+    for subject in store::timing::subjects() {
+        let times = store::timing::time(subject, runs)?;
+        let [model, library] = [times.model, times.library].map(Times::nanoseconds_a_call);
+        println!(
+            "{:<14} model {model:5.0} ns  library {library:5.0} ns {:.2}",
+            subject.to_string(),
+            times.ratio(),
+        );
+    }
+    Ok(ExitCode::SUCCESS)
 }
 
 fn print_times(label: &str, times: &LineTimes) {

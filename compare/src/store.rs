@@ -12,6 +12,7 @@ mod faults;
 mod generate;
 pub mod setting;
 mod texts;
+pub mod timing;
 
 use crate::model::{refuse_if, Answer};
 use setting::{Setting, KINDS};

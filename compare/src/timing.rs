@@ -51,7 +51,7 @@ pub fn time(sort: Sort, log: &[u8], runs: usize) -> Times {
 }
 
 /// How long one run takes.
-pub fn elapsed<T>(run: impl Fn() -> T) -> Duration {
+pub fn elapsed<T>(run: impl FnOnce() -> T) -> Duration {
     let start = Instant::now();
     black_box(run());
     start.elapsed()
