@@ -52,7 +52,7 @@ pub fn save(store: &mut [u8], table: u64, text: &[u8]) -> Answer
     let code = crate::room::put_code(reading.code, room, 64 <= table);
     if code == 0 {
         let setting = reading.setting;
-        done(crate::room::put_next(store, room, table, setting))
+        done(crate::room::put_next(store, room.free, table, room.newest, setting))
     } else {
         refused(code)
     }
@@ -66,8 +66,8 @@ pub fn return_to(store: &mut [u8], table: u64, version: u64) -> Answer
     let from = crate::room::held_if(room.sound, &store[..], table, version);
     let code = crate::room::put_code(0, room, PLACES <= from);
     if code == 0 {
-        let setting = crate::places::setting_at(&store[..], from);
-        done(crate::room::put_next(store, room, table, setting))
+        let earlier = crate::places::setting_at(&store[..], from);
+        done(crate::room::put_next(store, room.free, table, room.newest, earlier))
     } else {
         refused(code)
     }

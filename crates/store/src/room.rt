@@ -63,13 +63,13 @@ pub fn held_if(sound: bool, store: &[u8], table: u64, version: u64) -> usize
     }
 }
 
-// Writes the next version of the table to the free place, and gives its number.
-pub fn put_next(store: &mut [u8], room: Room, table: u64, setting: Setting) -> u64
-    requires { ⌜ (length (now store) ≡ storeSize) × (room .free < 256) × (room .newest < 2 ^ 48) × (table < 64) ⌝ }
-    ensures { λ r. ⌜ r ≡ room .newest + 1 ⌝ }
-    ensures { λ r. ⌜ now (store .exit) ≡ withPart 256 40 (room .free) (placeOf (saved table (room .newest + 1) setting)) (now (store .entry)) ⌝ }
+// Writes the table's next version to place i, and gives its number.
+pub fn put_next(store: &mut [u8], i: usize, table: u64, newest: u64, setting: Setting) -> u64
+    requires { ⌜ (length (now store) ≡ storeSize) × (i < 256) × (newest < 2 ^ 48) × (table < 64) ⌝ }
+    ensures { λ r. ⌜ r ≡ newest + 1 ⌝ }
+    ensures { λ r. ⌜ now (store .exit) ≡ withPart 256 40 i (placeOf (saved table (newest + 1) setting)) (now (store .entry)) ⌝ }
 {
-    let version = room.newest + 1;
-    crate::places::put(store, room.free, table as u8, version, setting);
+    let version = newest + 1;
+    crate::places::put(store, i, table as u8, version, setting);
     version
 }
