@@ -163,8 +163,11 @@ impl Store {
     /// Puts a new version in the lowest free place, which there must be.
     fn add(&mut self, table: u64, setting: Setting) -> u64 {
         let number = self.next_number(table);
-        let is_free = |place: &usize| self.versions().all(|(_, version)| version.place != *place);
-        let place = (0..PLACES).find(is_free).expect("a place is free");
+        let mut used = [false; PLACES];
+        for (_, version) in self.versions() {
+            used[version.place] = true;
+        }
+        let place = used.iter().position(|used| !used).expect("a place is free");
         self.tables.entry(table).or_default().push(Version {
             number,
             setting,

@@ -12,6 +12,20 @@ fn the_size() {
     assert_eq!(STORE_SIZE, 10_240);
 }
 
+/// The README's example.
+#[test]
+fn a_table_goes_back() -> Result<(), lamptwin::Refused> {
+    let mut store = vec![0; lamptwin::store_size()];
+    lamptwin::store_fresh(&mut store)?;
+    let board = b"chip=9551\naddr=5\nr1=255\nr2=128\nr3=255\nr4=128\nr5=85\nr6=85\n";
+    assert_eq!(lamptwin::store_save(&mut store, 12, board), Ok(1));
+    assert_eq!(lamptwin::store_return(&mut store, 12, 1), Ok(2));
+    let mut text = [0; lamptwin::SETTING_ROOM];
+    let length = lamptwin::store_read(&store, 12, 2, &mut text)?;
+    assert_eq!(&text[..length], board);
+    Ok(())
+}
+
 #[test]
 fn a_fresh_store_has_zeros() {
     for mut store in [vec![255; STORE_SIZE], store_of(&[numbered(1)]), full()] {

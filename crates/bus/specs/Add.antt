@@ -1,6 +1,6 @@
 -- A further device: its refusals, and the bus with it (RULES, Events; the table of refusals is in docs/DECISIONS.md).
 use Prim.Native.Nat.{ℕ}
-use mathlib.Core.Bool.{Bool, true, false, not}
+use mathlib.Core.Bool.{not}
 use mathlib.Core.List.{List, [], _∷_}
 use lib.Dec.{leb}
 use Rattle.chip.specs.Kinds.{chipNumbered, isUnknown}

@@ -1,3 +1,4 @@
 pub mod Registers
 pub mod Control
 pub mod Addresses
+pub mod Kinds

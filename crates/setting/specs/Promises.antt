@@ -9,12 +9,14 @@ use lib.Dec.{ltb, eqb}
 use lib.ListN.{length, take, drop, replicate, length-append, length-drop, length-replicate, take-append-drop, drop-of-length-le}
 use lib.Seq.{take-at, drop-at, take-all, length-take-le}
 use Rattle.basics.specs.First.{all}
-use Rattle.basics.specs.laws.First.{all-both}
+use Rattle.basics.specs.laws.First.{all-both, all-replicate}
 use Rattle.basics.specs.laws.Logic.{holds, fails, tested, and-left, and-right}
 use Rattle.chip.specs.Kinds.{numberOf, chipNumbered, isUnknown}
 use Rattle.chip.specs.Registers.{firstWritable, writables}
 use Rattle.chip.specs.Addresses.{addressAllowed, isBarred}
 use Rattle.chip.specs.laws.Addresses.{allowed-byte}
+use Rattle.chip.specs.laws.Kinds.{number-few}
+use Rattle.chip.specs.laws.Registers.{writables-few}
 use Rattle.chip.specs.Promises.{found-by-number}
 use Rattle.chip.specs.declared.Chip.{Chip}
 use Rattle.chip.specs.declared.Lookup.{Lookup}
@@ -25,9 +27,9 @@ use Rattle.text.specs.Text.{text, Short}
 use Rattle.text.specs.Read.{Rest, rest, mismatch, numberIn, isEnd}
 use Rattle.text.specs.laws.Decimal.{few-digits}
 use Rattle.text.specs.laws.Read.{end-sound}
-use Rattle.setting.specs.laws.Chips.{known-is, known-number, number-few, writables-few}
+use Rattle.setting.specs.laws.Chips.{known-is, known-number}
 use Rattle.setting.specs.laws.Reader.{line-sound, line-read, values-long, registers-sound, registers-bytes, ReadSo, registers-read}
-use Rattle.setting.specs.laws.Setting.{lines-length, all-zero, zeros, zero-bytes}
+use Rattle.setting.specs.laws.Setting.{lines-length, all-zero}
 use Rattle.setting.specs.Setting.{line, registerLines, settingText, settingOk, IsSetting, UnknownKind, BarredAddress}
 use Rattle.setting.specs.Reader.{kindOf, addressOf, chipIn, knownChip, isRead, lineOf, unknownIn, barredIn, registersOf, allRegisters, valuesOf, allValues, textRefusals, settingOf, readingOf}
 use Rattle.setting.specs.declared.Setting.{Setting}
@@ -116,9 +118,9 @@ module _ (t : List ℕ) where
         let is = known-is (chipIn t) known in
         let allowed : addressAllowed chip address ≡ true = not-false (addressAllowed chip address) (rw is at free) in
         record {
-          ok = rw (small, allowed, last-values) (zeros (28 - writables chip));
+          ok = rw (small, allowed, last-values) (all-replicate (λ (x : ℕ). eqb x 0) (28 - writables chip) 0 refl);
           long = rw (length-append values (replicate (28 - writables chip) 0), values-long (firstWritable chip) (writables chip) (addressOf t), length-replicate {A = ℕ} (28 - writables chip) 0) (omega (arith, writables-few chip .0));
-          bytes = rw (all-both (λ (x : ℕ). ltb x 256) values (replicate (28 - writables chip) 0), registers-bytes (firstWritable chip) (writables chip) (addressOf t) ended) (zero-bytes (28 - writables chip));
+          bytes = rw (all-both (λ (x : ℕ). ltb x 256) values (replicate (28 - writables chip) 0), registers-bytes (firstWritable chip) (writables chip) (addressOf t) ended) (all-replicate (λ (x : ℕ). ltb x 256) (28 - writables chip) 0 refl);
         }
 
 follows : (a b : Bool) {c : Bool} → a ≡ true → (a && b) ≡ c → b ≡ c

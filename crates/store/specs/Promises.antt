@@ -1,19 +1,21 @@
 -- Promises on the store: the number of a refusal and what it leaves, the shape of a store, and what any sequence of calls puts in and reads.
 -- Where a statement is over a storage `st`, it holds of the bytes of a store and of a list of versions alike.
 use Prim.Native.Nat.{ℕ, _+_, _≤_, _<_}
-use mathlib.Core.Path.{_≡_, refl}
+use mathlib.Core.Path.{_≡_, refl, _∙_}
 use mathlib.Core.Bool.{true}
 use mathlib.Core.List.{List, [], _∷_, _++_}
+use lib.Dec.{leb}
 use lib.ListN.{length, drop}
 use Rattle.basics.specs.Tabulate.{tabulate}
-use Rattle.basics.specs.laws.Logic.{holds}
 use Rattle.basics.specs.laws.Parts.{part-other}
-use Rattle.refusals.specs.laws.Refusals.{Exact}
-use Rattle.refusals.specs.laws.Outcome.{outcome-exact, outcome-refused}
+use Rattle.refusals.specs.Refusals.{least, codeOf}
+use Rattle.refusals.specs.laws.Refusals.{code-both, Exact}
+use Rattle.refusals.specs.laws.Outcome.{outcome-code, outcome-exact, outcome-refused}
+use Rattle.setting.specs.Reader.{textRefusals, readingOf}
 use Rattle.setting.specs.declared.Setting.{Setting}
-use Rattle.store.specs.Saved.{Saved, newest, nothing, just, found}
+use Rattle.store.specs.Saved.{Saved, newest, just, found}
 use Rattle.store.specs.Layout.{place, storeOk, savedOf, freePlace, withSaved, freshStore}
-use Rattle.store.specs.Calls.{Storage, bytes, refusedWith, doneWith, saveRefusals, saveReply, returnRefusals, returnReply, readRefusals, readReply, freshRefusals, freshReply}
+use Rattle.store.specs.Calls.{Storage, bytes, refusedWith, doneWith, putRefusals, saveRefusals, saveReply, returnRefusals, returnReply, readRefusals, readReply, freshRefusals, freshReply}
 use Rattle.store.specs.History.{Call, Save, Return, after, afterAll, listed, Holds, versionsOf, Grows}
 use Rattle.store.specs.laws.Fresh.{fresh-ok, fresh-holds-nothing}
 use Rattle.store.specs.laws.History.{save-agree, return-agree, read-same, after-holds, all-hold}
@@ -26,6 +28,13 @@ module _ {S : Type 0} (st : Storage S) (s : S) (table : ℕ) where
   pub save-exact : (text : List ℕ) → Exact (saveRefusals st s table text) (saveReply st s table text .code)
   unfolding saveReply
   save-exact text = outcome-exact (saveRefusals st s table text) (refusedWith s) _ (λ r. r .code) (λ k. refl) refl
+
+  -- the least of the text's own number and those of one version more
+  pub save-number : (text : List ℕ) → saveReply st s table text .code ≡ least (readingOf text .code) (codeOf (putRefusals st s table (leb 64 table)))
+  unfolding saveReply saveRefusals
+  save-number text =
+      outcome-code (saveRefusals st s table text) (refusedWith s) _ (λ r. r .code) (λ k. refl) refl
+      ∙ code-both (textRefusals text) (putRefusals st s table (leb 64 table))
 
   pub return-exact : (version : ℕ) → Exact (returnRefusals st s table version) (returnReply st s table version .code)
   unfolding returnReply

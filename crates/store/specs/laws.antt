@@ -2,6 +2,7 @@ pub mod Bytes
 pub mod Saved
 pub mod Layout
 pub mod Calls
+pub mod Judged
 pub mod History
 pub mod Listed
 pub mod Fresh

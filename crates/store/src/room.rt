@@ -13,7 +13,7 @@ ghost use Rattle.refusals.specs.Refusals.{Refusal, codeOf};
 ghost use Rattle.store.specs.Saved.{saved, newest};
 ghost use Rattle.store.specs.Layout.{storeSize, placeOf, storeOk, savedOf, freePlace};
 ghost use Rattle.store.specs.laws.Layout.{heldPlace};
-ghost use Rattle.store.specs.laws.Calls.{roomRefusals};
+ghost use Rattle.store.specs.laws.Judged.{roomRefusals};
 
 // Of a store of the right shape: the greatest version of the table, and the first free place.
 pub struct Room {

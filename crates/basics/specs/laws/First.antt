@@ -7,7 +7,7 @@ use native.Mathlib.Numerals.{add-one}
 use native.Mathlib.Nat.{le-of-suc-le-suc}
 use native.Mathlib.Omega.{arith}
 use lib.Bits.{bitAnd, and-le-l}
-use lib.ListN.{length, take, getD, set}
+use lib.ListN.{length, take, getD, set, replicate}
 use lib.Seq.{take-suc}
 use Rattle.basics.specs.laws.Logic.{tested, holds, fails, and-left, and-right}
 use Rattle.basics.specs.laws.Bits.{and-bit}
@@ -119,6 +119,10 @@ module _ {A : Type 0} (p : A → Bool) where
   pub all-both : (l m : List A) → all p (l ++ m) ≡ (all p l && all p m)
   all-both [] m = refl
   all-both (x ∷ l) m = ap (λ (b : Bool). p x && b) (all-both l m) ∙ sym (and-assoc (p x) (all p l) (all p m))
+
+  pub all-replicate : (n : ℕ) (x : A) → p x ≡ true → all p (replicate n x) ≡ true
+  all-replicate zero x e = refl
+  all-replicate (suc n) x e = rw e (all-replicate n x e)
 
   pub all-behind : (l : List A) (x : A) → all p (l ++ x ∷ []) ≡ (all p l && p x)
   all-behind l x = all-both l (x ∷ []) ∙ ap (λ (b : Bool). all p l && b) (and-true (p x))

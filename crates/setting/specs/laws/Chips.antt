@@ -1,14 +1,11 @@
--- The chip of a number, and how many registers it has.
-use Prim.Native.Nat.{ℕ, _+_, _≤_, _<_}
+-- The chip of a number.
+use Prim.Native.Nat.{ℕ}
 use mathlib.Core.Path.{_≡_, refl, sym}
 use mathlib.Core.Bool.{false, true≢false}
-use lib.Dec.{eqb, lit≤, lit<}
+use lib.Dec.{eqb}
 use borrow.Author.Tests.{eqb-true}
 use Rattle.basics.specs.laws.Logic.{holds, fails, tested}
 use Rattle.chip.specs.Kinds.{numberOf, chipNumbered, isUnknown}
-use Rattle.chip.specs.Registers.{firstWritable, writables}
-use Rattle.chip.specs.declared.Chip.{Chip}
-use Rattle.chip.specs.declared.Chip.the-variants.{Pca9635, Pca9634, Pca9531, Pca9551}
 use Rattle.chip.specs.declared.Lookup.{Lookup}
 use Rattle.chip.specs.declared.Lookup.the-variants.{Known, Unknown}
 use Rattle.setting.specs.Reader.{knownChip}
@@ -35,16 +32,3 @@ known-number n u =
                 ]
           ]
     ]
-
--- a chip's number has four digits, and its registers are few
-pub number-few : (chip : Chip) → numberOf chip < 10000
-number-few Pca9635 = lit< tt
-number-few Pca9634 = lit< tt
-number-few Pca9531 = lit< tt
-number-few Pca9551 = lit< tt
-
-pub writables-few : (chip : Chip) → (writables chip ≤ 28) × (firstWritable chip ≤ 1) × (firstWritable chip + writables chip ≤ 28)
-writables-few Pca9635 = (lit≤ tt, lit≤ tt, lit≤ tt)
-writables-few Pca9634 = (lit≤ tt, lit≤ tt, lit≤ tt)
-writables-few Pca9531 = (lit≤ tt, lit≤ tt, lit≤ tt)
-writables-few Pca9551 = (lit≤ tt, lit≤ tt, lit≤ tt)

@@ -1,5 +1,5 @@
 -- The lines of a setting: one register more, how long they are, and that a value that is 0 fills what is left.
-use Prim.Native.Nat.{ℕ, zero, suc, _+_, _*_, _-_, _≤_, _<_}
+use Prim.Native.Nat.{ℕ, suc, _+_, _*_, _-_, _≤_, _<_}
 use mathlib.Core.Path.{_≡_, refl, sym, ap, _∙_}
 use mathlib.Core.Logic.{⊎-elim}
 use mathlib.Core.Bool.{true}
@@ -90,11 +90,3 @@ all-zero [] e = refl
 all-zero (x ∷ l) e =
     let h = eqb-true x 0 (and-left (eqb x 0) (all (λ x. eqb x 0) l) e) in
     rw h (ap (λ (m : List ℕ). 0 ∷ m) (all-zero l (and-right (eqb x 0) (all (λ x. eqb x 0) l) e)))
-
-pub zeros : (n : ℕ) → all (λ x. eqb x 0) (replicate n 0) ≡ true
-zeros zero = refl
-zeros (suc n) = zeros n
-
-pub zero-bytes : (n : ℕ) → all (λ x. ltb x 256) (replicate n 0) ≡ true
-zero-bytes zero = refl
-zero-bytes (suc n) = zero-bytes n

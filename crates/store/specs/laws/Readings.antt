@@ -14,7 +14,7 @@ use Rattle.setting.specs.Promises.{read-setting}
 use Rattle.setting.specs.declared.Setting.{Setting}
 use Rattle.store.specs.Saved.{Saved, saved, Found, nothing, just, isNothing, found}
 use Rattle.store.specs.Calls.{Reply, Storage, bytes, doneWith, refusedWith, next, putRefusals, saveRefusals, saveReply, again, returnRefusals, returnReply, readRefusals, readReply}
-use Rattle.store.specs.History.{Call, after, afterAll, listed, Holds}
+use Rattle.store.specs.History.{Call, afterAll, listed, Holds}
 use Rattle.store.specs.laws.Calls.{save-done, return-done, read-done}
 use Rattle.store.specs.laws.History.{Agree, save-agree, return-agree, read-same, all-hold}
 use Rattle.store.specs.laws.Listed.{all-grow, found-stays, found-next}

@@ -7,7 +7,7 @@ use native.Mathlib.Omega.{arith}
 use denote.Ref.{now}
 use Rattle.text.specs.Read.{restAt, numberIn}
 use Rattle.setting.specs.Reader.{registersOf, valuesOf}
-use Rattle.setting.specs.laws.Chips.{writables-few}
+use Rattle.chip.specs.laws.Registers.{writables-few}
 use Rattle.setting.specs.laws.Reader.{register-byte, registers-none, values-none, registers-more, values-more, registers-done}
 use borrow.Author.Needs.{needs}
 use Rattle.setting.proofs.read.read_registers.Statement.{statement}

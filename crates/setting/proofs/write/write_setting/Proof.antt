@@ -2,7 +2,8 @@
 use native.Mathlib.Omega.{arith}
 use Rattle.text.specs.Text.{text}
 use Rattle.text.specs.laws.Decimal.{few-digits}
-use Rattle.setting.specs.laws.Chips.{number-few, writables-few}
+use Rattle.chip.specs.laws.Kinds.{number-few}
+use Rattle.chip.specs.laws.Registers.{writables-few}
 use Rattle.setting.specs.laws.Setting.{line-end, setting-written}
 use borrow.Author.Needs.{needs}
 use Rattle.setting.proofs.write.write_setting.Statement.{statement}

@@ -4,7 +4,8 @@ use native.Mathlib.Omega.{arith}
 use denote.Ref.{now}
 use Rattle.text.specs.laws.Write.{first-long}
 use Rattle.store.specs.Calls.{bytes}
-use Rattle.store.specs.laws.Calls.{read-unsound, read-missing, read-short, found-none, found-at-place, read-is}
+use Rattle.store.specs.laws.Calls.{read-unsound, read-missing, read-short}
+use Rattle.store.specs.laws.Judged.{found-none, found-at-place, read-is}
 use Rattle.store.specs.laws.Layout.{ok-long}
 use borrow.Author.Needs.{needs}
 use Rattle.store.proofs.calls.read.Statement.{statement}

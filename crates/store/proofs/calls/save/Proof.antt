@@ -1,8 +1,6 @@
 -- `save`: by its code, one place written or nothing.
-use mathlib.Core.Path.{sym, ap, _∙_}
 use denote.Ref.{now}
-use Rattle.store.specs.Calls.{refusedWith, bytes}
-use Rattle.store.specs.laws.Calls.{RoomOf, save-code, save-ready, save-is, save-refused}
+use Rattle.store.specs.laws.Judged.{save-ready, save-is, save-turned}
 use borrow.Author.Needs.{needs}
 use Rattle.store.proofs.calls.save.Statement.{statement}
 use Rattle.store.proofs.calls.save.Tie as tie
@@ -12,37 +10,25 @@ put-next-requires c κs =
     let p = c .before .before .before in
     let r = p .before in
     let t = r .before .before in
-    let s = t .before .before .before in
-    let store = now (s .args .store) in
-    let text = now (s .args .text) in
-    let of : RoomOf store (s .args .table) (r .room-for .result) = record { sound-is = r .room-for .ensures .0; found-is = r .room-for .ensures .1 } in
-    let e = save-code store (s .args .table) text (r .room-for .result) (t .read-setting .result) of (t .read-setting .ensures) (p .put-code .result) (p .put-code .ensures) in
-    save-ready store (s .args .table) text (r .room-for .result) (t .read-setting .result) of (t .read-setting .ensures) (sym e ∙ c .before .before .if1 .taken)
+    let a = t .before .before .before .args in
+    save-ready (now (a .store)) (a .table) (now (a .text)) _ (t .read-setting .result) _ (r .room-for .ensures) (t .read-setting .ensures) (p .put-code .ensures) (c .before .before .if1 .taken)
 
 returns : tie.Need-returns
 returns c =
     let p = c .before .before .before .before .before .before .before in
     let r = p .before in
     let t = r .before .before in
-    let s = t .before .before .before in
-    let store = now (s .args .store) in
-    let text = now (s .args .text) in
-    let of : RoomOf store (s .args .table) (r .room-for .result) = record { sound-is = r .room-for .ensures .0; found-is = r .room-for .ensures .1 } in
-    let e = save-code store (s .args .table) text (r .room-for .result) (t .read-setting .result) of (t .read-setting .ensures) (p .put-code .result) (p .put-code .ensures) in
+    let a = t .before .before .before .args in
     let w = c .before .before .before in
-    rw (c .done .ensures, w .put-next .ensures .0) (save-is store (s .args .table) text (r .room-for .result) (t .read-setting .result) of (t .read-setting .ensures) _ (sym e ∙ c .before .before .before .before .before .before .if1 .taken) (w .put-next .ensures .1))
+    rw (c .done .ensures, w .put-next .ensures .0) (save-is (now (a .store)) (a .table) (now (a .text)) _ (t .read-setting .result) _ (r .room-for .ensures) (t .read-setting .ensures) (p .put-code .ensures) (c .before .before .before .before .before .before .if1 .taken) _ (w .put-next .ensures .1))
 
 returns-2 : tie.Need-returns-2
 returns-2 c =
     let p = c .before .before in
     let r = p .before in
     let t = r .before .before in
-    let s = t .before .before .before in
-    let store = now (s .args .store) in
-    let text = now (s .args .text) in
-    let of : RoomOf store (s .args .table) (r .room-for .result) = record { sound-is = r .room-for .ensures .0; found-is = r .room-for .ensures .1 } in
-    let e = save-code store (s .args .table) text (r .room-for .result) (t .read-setting .result) of (t .read-setting .ensures) (p .put-code .result) (p .put-code .ensures) in
-    rw (c .refused .ensures) (sym (save-refused bytes store (s .args .table) text (λ z. c .before .if1 .left (e ∙ z)) ∙ ap (refusedWith store) (sym e)))
+    let a = t .before .before .before .args in
+    rw (c .refused .ensures) (save-turned (now (a .store)) (a .table) (now (a .text)) _ (t .read-setting .result) _ (r .room-for .ensures) (t .read-setting .ensures) (p .put-code .ensures) (c .before .if1 .left))
 
 pub save-spec : {M : Type 1} → statement M
 save-spec =

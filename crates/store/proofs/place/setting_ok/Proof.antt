@@ -2,7 +2,7 @@
 use mathlib.Core.Path.{sym, _∙_}
 use native.Mathlib.Omega.{arith}
 use denote.Ref.{now}
-use Rattle.setting.specs.laws.Chips.{writables-few}
+use Rattle.chip.specs.laws.Registers.{writables-few}
 use Rattle.store.specs.laws.Layout.{setting-is, setting-barred}
 use borrow.Author.Needs.{needs}
 use Rattle.store.proofs.place.setting_ok.Statement.{statement}

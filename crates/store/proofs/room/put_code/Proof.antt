@@ -1,5 +1,5 @@
 -- `put_code`: the four refusals, one after the other.
-use Rattle.store.specs.laws.Calls.{room-more}
+use Rattle.store.specs.laws.Judged.{room-more}
 use borrow.Author.Needs.{needs}
 use Rattle.store.proofs.room.put_code.Statement.{statement}
 use Rattle.store.proofs.room.put_code.Tie as tie
