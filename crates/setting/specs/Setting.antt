@@ -19,6 +19,7 @@ use Rattle.setting.specs.declared.Setting.{Setting}
 abbrev pub line : String → ℕ → List ℕ → List ℕ
 line key n rest = entry key n (text "\n" ++ rest)
 
+-- the line of register r, and what follows
 abbrev pub registerLine : ℕ → ℕ → List ℕ → List ℕ
 registerLine r value rest = entry "r" r (line "=" value rest)
 

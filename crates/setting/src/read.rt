@@ -30,6 +30,7 @@ struct Registers {
     values: [u8; 28],
 }
 
+// Whether the text is of the right shape so far.
 fn is_read(field: Field) -> bool
     ensures { λ r. ⌜ ((l : List ℕ) → r ≡ isRead (restAt l field)) ⌝ }
 {
@@ -60,6 +61,7 @@ fn read_register(text: &[u8], from: Field, register: u64) -> Field
     Field::Mismatch
 }
 
+// Past the lines of all writable registers of the chip.
 fn read_registers(text: &[u8], from: Field, chip: Chip) -> Registers
     ensures { λ r. ⌜ restAt (now (text .entry)) (r .field) ≡ allRegisters chip (restAt (now (text .entry)) from) ⌝ }
     ensures { λ r. ⌜ r .values ≡ allValues chip (restAt (now (text .entry)) from) ⌝ }
@@ -77,6 +79,7 @@ fn read_registers(text: &[u8], from: Field, chip: Chip) -> Registers
     Registers { field, values }
 }
 
+// The chip that is named; any, where none is.
 fn known_chip(found: Lookup) -> Chip
     ensures { λ r. ⌜ r ≡ knownChip found ⌝ }
 {
@@ -107,6 +110,7 @@ fn says_barred(address: Field, found: Lookup) -> bool
     }
 }
 
+// What a text says, whatever its bytes.
 pub fn read_setting(text: &[u8]) -> Reading
     ensures { λ r. ⌜ r ≡ readingOf (now (text .entry)) ⌝ }
 {

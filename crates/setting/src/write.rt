@@ -30,6 +30,7 @@ fn write_register(register: u64, value: u8, out: &mut [u8], at: usize) -> usize
     write_line(b"=", value as u64, out, b)
 }
 
+// A line for each of the first values.
 fn write_registers(first: u64, count: usize, values: [u8; 28], out: &mut [u8], at: usize) -> usize
     requires { ⌜ (first + count ≤ 100) × (count ≤ 28) × (at + 8 * count + 25 ≤ length (now out)) ⌝ }
     ensures { λ r. ⌜ Written (now (out .entry)) at (registerLines first (take count values)) (now (out .exit)) r ⌝ }

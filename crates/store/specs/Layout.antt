@@ -27,6 +27,7 @@ unfoldable pub digits : ℕ → ℕ → List ℕ
 digits zero x = []
 digits (suc n) x = x % 256 ∷ digits n (x / 256)
 
+-- the byte of a kind, and the kind of a byte
 abbrev pub kindOf : Chip → ℕ
 kindOf Pca9635 = 0
 kindOf Pca9634 = 1
@@ -51,13 +52,15 @@ settingIn p = record { chip = chipOf (getD p 9 0); addr = getD p 10 0; values = 
 abbrev pub savedIn : List ℕ → Saved
 savedIn p = saved (tableIn p) (versionIn p) (settingIn p)
 
+-- the bytes of a version
 abbrev pub placeOf : Saved → List ℕ
 placeOf e = digits 8 (e .version) ++ ((e .table ∷ kindOf (e .setting .chip) ∷ e .setting .addr ∷ 0 ∷ []) ++ e .setting .values)
 
--- every byte of a free place is 0
+-- a place that holds a version: each part within its range
 abbrev pub heldOk : List ℕ → Bool
 heldOk p = leb (versionIn p) (2 ^ 48) && (ltb (tableIn p) 64 && (ltb (getD p 9 0) 4 && (eqb (getD p 11 0) 0 && settingOk (settingIn p))))
 
+-- every byte of a free place is 0
 unfoldable pub placeOk : List ℕ → Bool
 placeOk p = cond (eqb (versionIn p) 0) (all (λ x. eqb x 0) p) (heldOk p)
 

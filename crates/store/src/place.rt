@@ -22,6 +22,7 @@ const VALUES: usize = 12;
 // The largest number of a version, 2 ^ 48.
 pub const VERSION_LIMIT: u64 = 281474976710656;
 
+// The byte of a kind, and the kind of a byte.
 pub fn kind_of(chip: Chip) -> u8
     ensures { λ r. ⌜ r ≡ kindOf chip ⌝ }
 {
@@ -44,6 +45,7 @@ fn chip_of(kind: u8) -> Chip
     }
 }
 
+// What the parts of a place say.
 pub fn version_in(part: &[u8]) -> u64
     requires { ⌜ length (now part) ≡ 40 ⌝ }
     ensures { λ r. ⌜ r ≡ versionIn (now (part .entry)) ⌝ }
@@ -86,6 +88,7 @@ pub fn is_at(part: &[u8], table: u64, version: u64) -> bool
     }
 }
 
+// Whether the chip can have the address, and zeros stand behind the values.
 fn setting_ok(part: &[u8]) -> bool
     requires { ⌜ length (now part) ≡ 40 ⌝ }
     ensures { λ r. ⌜ r ≡ settingOk (settingIn (now (part .entry))) ⌝ }
@@ -99,6 +102,7 @@ fn setting_ok(part: &[u8]) -> bool
     }
 }
 
+// Whether a place with a version is of the right shape; and whether any place is.
 fn held_ok(part: &[u8]) -> bool
     requires { ⌜ length (now part) ≡ 40 ⌝ }
     ensures { λ r. ⌜ r ≡ heldOk (now (part .entry)) ⌝ }

@@ -18,6 +18,7 @@ const WIDTH: usize = 40;
 
 pub const PLACES: usize = 256;
 
+// Whether the store is of the right shape.
 pub fn is_sound(store: &[u8]) -> bool
     ensures { λ r. ⌜ r ≡ storeOk (now (store .entry)) ⌝ }
 {
@@ -103,6 +104,7 @@ pub fn setting_at(store: &[u8], i: usize) -> Setting
     crate::place::setting_in(&store[a..e])
 }
 
+// It ensures how many values there are, since a caller's proof asks for that.
 fn put_values(values: [u8; 28], store: &mut [u8], at: usize) -> usize
     requires { ⌜ at + 28 ≤ length (now store) ⌝ }
     ensures { λ r. ⌜ Written (now (store .entry)) at values (now (store .exit)) r ⌝ }
