@@ -1,3 +1,4 @@
 pub mod Setting
 pub mod Chips
 pub mod Reader
+pub mod Whole
