@@ -1,10 +1,9 @@
 -- What calls put into a store, by the calls alone: a list of versions, and no bytes.
 use Prim.Native.Nat.{ℕ, _+_}
 use mathlib.Core.Path.{_≡_}
-use mathlib.Core.Bool.{true, cond}
+use mathlib.Core.Bool.{Bool, true, cond}
 use lib.Dec.{eqb}
 use mathlib.Core.List.{List, [], _∷_, _++_}
-use lib.ListN.{length}
 use Rattle.store.specs.Saved.{Saved, newest, found}
 use Rattle.store.specs.Layout.{storeOk, savedOf}
 use Rattle.store.specs.Calls.{Storage, saveReply, returnReply}
@@ -29,11 +28,16 @@ module _ {S : Type 0} (st : Storage S) where
 abbrev pub listed : Storage (List Saved)
 listed = record { sound = λ l. true; holds = λ l. l; with = λ e l. l ++ e ∷ [] }
 
--- two lists hold the same versions, in whatever order
+-- how many versions pass a test
+unfoldable pub many : (Saved → Bool) → List Saved → ℕ
+many p [] = 0
+many p (e ∷ l) = cond (p e) 1 0 + many p l
+
+-- two lists hold the same versions, each as often, in whatever order
 pub record Alike (l m : List Saved) : Type 0 where
   pub same-found : (table version : ℕ) → found table version l ≡ found table version m
   pub same-newest : (table : ℕ) → newest table l ≡ newest table m
-  pub same-many : length l ≡ length m
+  pub same-many : (p : Saved → Bool) → many p l ≡ many p m
 
 -- a store holds exactly the versions of a list
 pub record Holds (store : List ℕ) (l : List Saved) : Type 0 where

@@ -69,7 +69,7 @@ fresh-refusal buffer = outcome-refused (freshRefusals buffer) (refusedWith buffe
 
 -- a store of the right shape holds what its places say
 own : (store : List ℕ) → storeOk store ≡ true → Holds store (savedOf store)
-own store ok = record { shape = ok; versions = record { same-found = λ t v. refl; same-newest = λ t. refl; same-many = refl } }
+own store ok = record { shape = ok; versions = record { same-found = λ t v. refl; same-newest = λ t. refl; same-many = λ p. refl } }
 
 -- a fresh store is of the right shape, and holds nothing
 pub fresh-holds : Holds freshStore []

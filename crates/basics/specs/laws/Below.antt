@@ -62,14 +62,6 @@ below-alike p q (suc n) h = rw (below-alike p q n (λ i l. h i (omega arith)), h
 -- ---- the first of which a test holds
 
 module _ (p : ℕ → Bool) where
-  pub first-most : (n : ℕ) → firstBelow n p ≤ n
-  unfolding firstBelow
-  first-most zero = omega arith
-  first-most (suc n) = elim (tested (ltb (firstBelow n p) n)) [
-    | holds e ↦ rw e (omega (arith, first-most n))
-    | fails e ↦ rw e (elim (tested (p n)) [ holds f ↦ rw f (omega arith) | fails f ↦ rw f (omega arith) ])
-  ]
-
   -- it holds of none before it
   pub first-none : (n : ℕ) → allBelow n (λ k. not (p k)) ≡ true → n ≡ firstBelow n p
   unfolding firstBelow allBelow

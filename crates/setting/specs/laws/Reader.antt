@@ -46,7 +46,7 @@ kept : (b : Bool) (s : Rest) {l : List ℕ} {v : ℕ} → cond b s mismatch ≡ 
 kept true s e = (refl, e)
 kept false s e = never e
 
-pub register-sound : (r : ℕ) (s : Rest) {l : List ℕ} {v : ℕ} → registerOf r s ≡ rest l v → (s ≡ rest (registerLine r v l) (numberIn s)) × (v ≤ 255)
+register-sound : (r : ℕ) (s : Rest) {l : List ℕ} {v : ℕ} → registerOf r s ≡ rest l v → (s ≡ rest (registerLine r v l) (numberIn s)) × (v ≤ 255)
 unfolding registerOf
 register-sound r s {l} {v} e =
     let number = fieldOf (text "r") s in
@@ -59,7 +59,7 @@ register-sound r s {l} {v} e =
     let i = field-sound (text "r") s (rw same at n) .0 in
     (i, omega arith)
 
-pub register-read : (r v : ℕ) (l : List ℕ) (m : ℕ) → Short r → v ≤ 255 → registerOf r (rest (registerLine r v l) m) ≡ rest l v
+register-read : (r v : ℕ) (l : List ℕ) (m : ℕ) → Short r → v ≤ 255 → registerOf r (rest (registerLine r v l) m) ≡ rest l v
 unfolding registerOf
 register-read r v l m h k =
     rw (field-read (text "r") r (text "=" ++ (decimal v ++ (text "\n" ++ l))) m h refl, line-read (text "=") v l r (omega arith), eq-eqb r r refl, le-leb v 255 k) refl

@@ -21,7 +21,7 @@ use Rattle.store.specs.Calls.{Reply, bytes, next, putRefusals, saveRefus
 use Rattle.store.specs.History.{Call, Save, Return, Read, after, afterAll, listed, Holds}
 use Rattle.store.specs.laws.Calls.{save-done, save-refused, return-done, return-refused}
 use Rattle.store.specs.laws.Layout.{IsSaved, inserted-below, put-ok, full-is, found-held}
-use Rattle.store.specs.laws.Saved.{inserted-alike, alike-trans, alike-more}
+use Rattle.store.specs.laws.Saved.{inserted-alike, alike-trans, alike-more, alike-long}
 
 -- ---- one version more
 
@@ -37,7 +37,7 @@ module _ (store : List ℕ) (l : List Saved) (h : Holds store l) (table : ℕ) (
     free = eqb-true _ 0 (first-holds (λ i. eqb (versionIn (place i store)) 0) 256 there)
 
     -- the store with it holds the list with it
-    pub put-holds : Holds (withSaved e store) (l ++ saved table (next listed l table) setting ∷ [])
+    put-holds : Holds (withSaved e store) (l ++ saved table (next listed l table) setting ∷ [])
     put-holds =
         let same : next bytes store table ≡ next listed l table = ap (λ (n : ℕ). n + 1) (h .versions .same-newest table) in
         rw (← same) (record {
@@ -54,10 +54,10 @@ module _ (store : List ℕ) (table : ℕ) (missing : Bool) (none : NoneHolds (pu
   next-few : next bytes store table ≤ 2 ^ 48
   next-few = ltb-false (2 ^ 48) (next bytes store table) (none .1 .0)
 
-  pub room-left : leb 256 (length (savedOf store)) ≡ false
+  room-left : leb 256 (length (savedOf store)) ≡ false
   room-left = none .1 .1 .1 .0
 
-  pub put-saved : (setting : Setting) → table < 64 → settingOk setting ≡ true → length (setting .values) ≡ 28 → IsSaved (saved table (next bytes store table) setting)
+  put-saved : (setting : Setting) → table < 64 → settingOk setting ≡ true → length (setting .values) ≡ 28 → IsSaved (saved table (next bytes store table) setting)
   put-saved setting t ok long = record { above = omega arith; below = next-few; table = t; setting = ok; long = long }
 
 -- ---- each call
@@ -73,7 +73,7 @@ module _ (store : List ℕ) (l : List Saved) (h : Holds store l) (table : ℕ) w
   same-next = ap (λ (n : ℕ). n + 1) (h .versions .same-newest table)
 
   put-same : (missing : Bool) → putRefusals bytes store table missing ≡ putRefusals listed l table missing
-  put-same missing = rw (h .shape, h .versions .same-newest table, h .versions .same-many) refl
+  put-same missing = rw (h .shape, h .versions .same-newest table, alike-long (h .versions)) refl
 
   module _ (text : List ℕ) where
     save-same : saveRefusals bytes store table text ≡ saveRefusals listed l table text

@@ -65,10 +65,10 @@ module _ (e : Saved) (s : IsSaved e) where
   unfolding digits
   setting-back = rw (chip-back (e .setting .chip)) refl
 
-  pub place-long : length (placeOf e) ≡ 40
+  place-long : length (placeOf e) ≡ 40
   place-long = simp (length-append, digits-long 8 (e .version), s .long) (omega arith)
 
-  pub saved-back : savedAt (placeOf e) ≡ e ∷ []
+  saved-back : savedAt (placeOf e) ≡ e ∷ []
   saved-back = rw (version-back, ne-eqb (e .version) 0 (λ z. omega (arith, s .above)), table-back, setting-back) refl
 
   pub place-ok : placeOk (placeOf e) ≡ true
@@ -308,7 +308,7 @@ module _ (store : List ℕ) (ok : storeOk store ≡ true) where
   unfolding storeOk
   ok-long = eqb-true (length store) storeSize (and-left (eqb (length store) storeSize) (allBelow 256 (λ j. placeOk (place j store))) ok)
 
-  pub ok-place : (i : ℕ) → i < 256 → placeOk (place i store) ≡ true
+  ok-place : (i : ℕ) → i < 256 → placeOk (place i store) ≡ true
   unfolding storeOk
   ok-place i h = below-at (λ j. placeOk (place j store)) i 256 h (and-right (eqb (length store) storeSize) (allBelow 256 (λ j. placeOk (place j store))) ok)
 

@@ -26,7 +26,7 @@ again-left : (l : List Saved) (table : ℕ) (f : Found) (m : List Saved) → m �
 again-left l table nothing m e = stays e
 again-left l table (just setting) m e = gains table setting e
 
-pub after-left : (l : List Saved) (c : Call) → Left l (after listed l c)
+after-left : (l : List Saved) (c : Call) → Left l (after listed l c)
 after-left l (Read table version buffer) = stays refl
 after-left l (Save table text) =
     elim (tested (eqb (codeOf (saveRefusals listed l table text)) 0)) [

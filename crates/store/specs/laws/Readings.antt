@@ -20,11 +20,11 @@ use Rattle.store.specs.laws.History.{Agree, save-agree, return-agree, re
 use Rattle.store.specs.laws.Listed.{all-grow, found-stays, found-next}
 
 -- a code of 0 is one of the refusals
-pub save-accepted : {S : Type 0} (st : Storage S) (s : S) (table : ℕ) (text : List ℕ) → saveReply st s table text .code ≡ 0 → codeOf (saveRefusals st s table text) ≡ 0
+save-accepted : {S : Type 0} (st : Storage S) (s : S) (table : ℕ) (text : List ℕ) → saveReply st s table text .code ≡ 0 → codeOf (saveRefusals st s table text) ≡ 0
 unfolding saveReply
 save-accepted st s table text z = sym (outcome-code (saveRefusals st s table text) (refusedWith s) _ (λ r. r .code) (λ k. refl) refl) ∙ z
 
-pub return-accepted : {S : Type 0} (st : Storage S) (s : S) (table version : ℕ) → returnReply st s table version .code ≡ 0 → codeOf (returnRefusals st s table version) ≡ 0
+return-accepted : {S : Type 0} (st : Storage S) (s : S) (table version : ℕ) → returnReply st s table version .code ≡ 0 → codeOf (returnRefusals st s table version) ≡ 0
 unfolding returnReply
 return-accepted st s table version z = sym (outcome-code (returnRefusals st s table version) (refusedWith s) _ (λ r. r .code) (λ k. refl) refl) ∙ z
 
@@ -53,11 +53,11 @@ module _ (store : List ℕ) (l : List Saved) (h : Holds store l) (table : ℕ) w
     made-read : readReply bytes (afterAll bytes made cs) table (next listed l table) buffer ≡ readReply listed list table (next listed l table) buffer
     made-read = read-same (afterAll bytes made cs) list (all-hold made _ g cs) table (next listed l table) buffer
 
-    pub made-text : length (settingText setting) ≤ length buffer
+    made-text : length (settingText setting) ≤ length buffer
         → readReply bytes (afterAll bytes made cs) table (next listed l table) buffer ≡ doneWith (length (settingText setting)) (settingText setting ++ drop (length (settingText setting)) buffer)
     made-text k = made-read ∙ read-done listed list table (next listed l table) buffer setting refl found-made k
 
-    pub made-again : (version : ℕ) → found table version l ≡ just setting → readReply bytes (afterAll bytes made cs) table (next listed l table) buffer ≡ readReply bytes store table version buffer
+    made-again : (version : ℕ) → found table version l ≡ just setting → readReply bytes (afterAll bytes made cs) table (next listed l table) buffer ≡ readReply bytes store table version buffer
     made-again version f =
         made-read
         ∙ read-by-found list l table (next listed l table) version buffer (found-made ∙ sym f)

@@ -1,16 +1,16 @@
 -- Lists of versions, one behind the other, and one version more at any place.
 use Prim.Native.Nat.{ℕ, max, _+_, _<_}
 use mathlib.Core.Path.{_≡_, refl, sym, ap, _∙_}
-use mathlib.Core.Bool.{_&&_}
+use mathlib.Core.Bool.{Bool, true, _&&_}
 use mathlib.Core.List.{List, [], _∷_, _++_}
 use native.Mathlib.Omega.{arith}
 use lib.Dec.{eqb}
-use lib.ListN.{length-append}
+use lib.ListN.{length}
 use borrow.Author.Tests.{eqb-true}
 use Rattle.basics.specs.laws.Logic.{tested, holds, fails, and-left, and-right}
 use Rattle.setting.specs.declared.Setting.{Setting}
 use Rattle.store.specs.Saved.{Saved, newest, Found, nothing, just, found}
-use Rattle.store.specs.History.{Alike}
+use Rattle.store.specs.History.{many, Alike}
 
 -- the first of two that is there
 abbrev pub orElse : Found → Found → Found
@@ -30,6 +30,16 @@ pub newest-both : (table : ℕ) (l m : List Saved) → newest table (l ++ m) ≡
 unfolding newest
 newest-both table [] m = omega arith
 newest-both table (e ∷ l) m = omega (arith, newest-both table l m)
+
+pub many-both : (p : Saved → Bool) (l m : List Saved) → many p (l ++ m) ≡ many p l + many p m
+unfolding many
+many-both p [] m = omega arith
+many-both p (e ∷ l) m = omega (arith, many-both p l m)
+
+many-all : (l : List Saved) → many (λ e. true) l ≡ length l
+unfolding many
+many-all [] = refl
+many-all (e ∷ l) = omega (arith, many-all l)
 
 -- no version above the newest is there
 pub above-newest : (table version : ℕ) (l : List Saved) → newest table l < version → found table version l ≡ nothing
@@ -105,12 +115,20 @@ module _ (e : Saved) (l m : List Saved) (i : Inserted e l m) (higher : newest (e
       let d = newest-both table l (e ∷ []) in
       rw (i .new) (omega (arith, b, o, d, rw (← i .old) at c))
 
+  many-inserted : (p : Saved → Bool) → many p m ≡ many p (l ++ e ∷ [])
+  many-inserted p =
+      let b = many-both p (i .before) (e ∷ i .behind) in
+      let o = many-both p (e ∷ []) (i .behind) in
+      let c = many-both p (i .before) (i .behind) in
+      let d = many-both p l (e ∷ []) in
+      rw (i .new) (omega (arith, b, o, d, rw (← i .old) at c))
+
   pub inserted-alike : Alike m (l ++ e ∷ [])
   inserted-alike =
       record {
         same-found = found-inserted;
         same-newest = newest-inserted;
-        same-many = rw (i .new, i .old) (simp length-append (omega arith));
+        same-many = many-inserted;
       }
 
 -- ---- lists that hold the same
@@ -120,7 +138,7 @@ alike-trans a b =
     record {
       same-found = λ t v. a .same-found t v ∙ b .same-found t v;
       same-newest = λ t. a .same-newest t ∙ b .same-newest t;
-      same-many = a .same-many ∙ b .same-many;
+      same-many = λ p. a .same-many p ∙ b .same-many p;
     }
 
 pub alike-more : (e : Saved) {l m : List Saved} → Alike l m → Alike (l ++ e ∷ []) (m ++ e ∷ [])
@@ -128,5 +146,8 @@ alike-more e {l} {m} a =
     record {
       same-found = λ t v. found-both t v l (e ∷ []) ∙ ap (λ (f : Found). orElse f (found t v (e ∷ []))) (a .same-found t v) ∙ sym (found-both t v m (e ∷ []));
       same-newest = λ t. omega (arith, newest-both t l (e ∷ []), newest-both t m (e ∷ []), a .same-newest t);
-      same-many = simp length-append (omega (arith, a .same-many));
+      same-many = λ p. omega (arith, many-both p l (e ∷ []), many-both p m (e ∷ []), a .same-many p);
     }
+
+pub alike-long : {l m : List Saved} → Alike l m → length l ≡ length m
+alike-long {l} {m} a = sym (many-all l) ∙ a .same-many (λ e. true) ∙ many-all m
