@@ -1,14 +1,15 @@
 -- The calls on a store: the refusals of each, and what it comes to (RULES, Settings).
-use Prim.Native.Nat.{ℕ, _+_, _^_}
+use Prim.Native.Nat.{ℕ, _+_, _%_, _^_}
 use mathlib.Core.Bool.{Bool, not}
 use mathlib.Core.List.{List, [], _∷_, _++_}
 use lib.Dec.{leb, ltb, eqb}
 use lib.ListN.{length, drop}
 use Rattle.refusals.specs.Refusals.{Refusal, refuse, outcome}
 use Rattle.setting.specs.Reader.{textRefusals, settingOf}
-use Rattle.store.specs.Saved.{Saved, saved, newest, Found, nothing, just, isNothing, textOf, found}
+use Rattle.store.specs.Saved.{Saved, saved, newest, Found, nothing, just, isNothing, textOf, found, only}
+use Rattle.store.specs.Kept.{allHeld, isKept}
 use Rattle.store.specs.declared.calls.Answer.{Answer}
-use Rattle.store.specs.Layout.{storeSize, storeOk, savedOf, withSaved, freshStore}
+use Rattle.store.specs.Layout.{storeSize, storeOk, savedOf, withSaved, withOnly, freshStore}
 
 -- code, value, and what is left of what was lent
 pub record Reply (S : Type 0) : Type 0 where
@@ -30,11 +31,12 @@ replied code value lent = record { code = code; value = value; state = lent }
 abbrev pub answered : Answer → List ℕ → Reply (List ℕ)
 answered a lent = replied (a .code) (a .value) lent
 
--- over any state that holds versions: whether it is of the right shape, what it holds, and it with one version more
+-- over any state that holds versions: whether it is of the right shape, what it holds, it with one version more, and it with only those that a test keeps
 pub record Storage (S : Type 0) : Type 0 where
   pub sound : S → Bool
   pub holds : S → List Saved
   pub with : Saved → S → S
+  pub keep : (ℕ → ℕ → Bool) → S → S
 
 module _ {S : Type 0} (st : Storage S) where
   -- the number of a table's next version
@@ -86,10 +88,24 @@ module _ {S : Type 0} (st : Storage S) where
       outcome (readRefusals s table version buffer) (refusedWith buffer)
       (doneWith (length text) (text ++ drop (length text) buffer))
 
+  -- room is made: only the newest version of each table and those listed are kept; the value is the number of the others
+  unfoldable pub keepRefusals : S → List ℕ → List Refusal
+  keepRefusals s list =
+      refuse 4 (not (st .sound s))
+      ∷ refuse 4 (eqb (length list % 2) 1)
+      ∷ refuse 11 (not (allHeld list (st .holds s)))
+      ∷ []
+
+  unfoldable pub keepReply : S → List ℕ → Reply S
+  keepReply s list =
+      let keeps = isKept list (st .holds s) in
+      outcome (keepRefusals s list) (refusedWith s)
+      (doneWith (length (only (λ table version. not (keeps table version)) (st .holds s))) (st .keep keeps s))
+
 -- ---- the bytes of a store
 
 abbrev pub bytes : Storage (List ℕ)
-bytes = record { sound = storeOk; holds = savedOf; with = withSaved }
+bytes = record { sound = storeOk; holds = savedOf; with = withSaved; keep = withOnly }
 
 -- a buffer of the right size becomes a store that holds nothing
 abbrev pub freshRefusals : List ℕ → List Refusal

@@ -1,6 +1,6 @@
 -- The bytes of a store: 256 places of 40 bytes, each free or with one version (docs/STORE.md).
 use Prim.Native.Nat.{ℕ, zero, suc, _+_, _*_, _/_, _%_, _^_}
-use mathlib.Core.Bool.{Bool, _&&_, cond}
+use mathlib.Core.Bool.{Bool, not, _&&_, cond}
 use mathlib.Core.List.{List, [], _∷_, _++_}
 use lib.Dec.{leb, ltb, eqb}
 use lib.ListN.{length, getD, take, drop, replicate}
@@ -91,6 +91,21 @@ freePlace store = firstBelow 256 (λ i. eqb (versionIn (place i store)) 0)
 -- a store with one version more, in the first free place; every other byte stays
 abbrev pub withSaved : Saved → List ℕ → List ℕ
 withSaved e store = withPart 256 40 (freePlace store) (placeOf e) store
+
+-- a place whose version a test does not keep; one without a version is none
+abbrev pub isFreed : (ℕ → ℕ → Bool) → List ℕ → Bool
+isFreed keeps p = not (eqb (versionIn p) 0) && not (keeps (tableIn p) (versionIn p))
+
+abbrev pub freePart : List ℕ
+freePart = replicate 40 0
+
+-- a store with such places free, of the first n and of all; every other byte stays
+unfoldable pub onlyBelow : ℕ → (ℕ → ℕ → Bool) → List ℕ → List ℕ
+onlyBelow zero keeps store = store
+onlyBelow (suc n) keeps store = cond (isFreed keeps (place n store)) (withPart 256 40 n freePart (onlyBelow n keeps store)) (onlyBelow n keeps store)
+
+abbrev pub withOnly : (ℕ → ℕ → Bool) → List ℕ → List ℕ
+withOnly keeps store = onlyBelow 256 keeps store
 
 abbrev pub freshStore : List ℕ
 freshStore = replicate storeSize 0

@@ -1,8 +1,8 @@
 -- Promises on the store: the number of a refusal and what it leaves, the shape of a store, and what any sequence of calls puts in and reads.
 -- Where a statement is over a storage `st`, it holds of the bytes of a store and of a list of versions alike.
-use Prim.Native.Nat.{ℕ, _+_, _≤_, _<_}
-use mathlib.Core.Path.{_≡_, refl, _∙_}
-use mathlib.Core.Bool.{true}
+use Prim.Native.Nat.{ℕ, _+_, _^_, _≤_, _<_}
+use mathlib.Core.Path.{_≡_, refl, ap, _∙_}
+use mathlib.Core.Bool.{true, cond}
 use mathlib.Core.List.{List, [], _∷_, _++_}
 use lib.Dec.{leb}
 use lib.ListN.{length, drop}
@@ -12,15 +12,17 @@ use Rattle.refusals.specs.Refusals.{least, codeOf}
 use Rattle.refusals.specs.laws.Refusals.{code-both, Exact}
 use Rattle.refusals.specs.laws.Outcome.{outcome-code, outcome-exact, outcome-refused}
 use Rattle.setting.specs.Reader.{textRefusals, readingOf}
-use Rattle.setting.specs.declared.Setting.{Setting}
-use Rattle.store.specs.Saved.{Saved, newest, just, found}
-use Rattle.store.specs.Layout.{place, storeOk, savedOf, freePlace, withSaved, freshStore}
-use Rattle.store.specs.Calls.{Storage, bytes, refusedWith, doneWith, putRefusals, saveRefusals, saveReply, returnRefusals, returnReply, readRefusals, readReply, freshRefusals, freshReply}
-use Rattle.store.specs.History.{Call, Save, Return, after, afterAll, listed, Holds, versionsOf, Grows}
+use Rattle.store.specs.Saved.{Saved, newest, nothing, found, isHeld}
+use Rattle.store.specs.Kept.{isKept}
+use Rattle.store.specs.Layout.{place, storeOk, savedOf, freePlace, withSaved, isFreed, freePart, freshStore}
+use Rattle.store.specs.Calls.{Storage, bytes, refusedWith, doneWith, next, putRefusals, saveRefusals, saveReply, returnRefusals, returnReply, readRefusals, readReply, keepRefusals, keepReply, freshRefusals, freshReply}
+use Rattle.store.specs.History.{Call, Save, Return, after, afterAll, given, listed, Holds, Follows, InOrder}
 use Rattle.store.specs.laws.Fresh.{fresh-ok, fresh-holds-nothing}
-use Rattle.store.specs.laws.History.{save-agree, return-agree, read-same, after-holds, all-hold}
-use Rattle.store.specs.laws.Listed.{all-grow, all-numbered}
-use Rattle.store.specs.laws.Readings.{saved-text, returned-same, kept-same}
+use Rattle.store.specs.laws.Calls.{read-missing, return-missing}
+use Rattle.store.specs.laws.History.{save-agree, return-agree, read-same, keep-agree, after-holds, all-hold, all-given}
+use Rattle.store.specs.laws.Listed.{all-follow, all-numbered, from-one}
+use Rattle.store.specs.laws.Readings.{saved-text, returned-same, kept-same, gone-same}
+use Rattle.store.specs.laws.Room.{newest-stays, place-kept, found-kept, value-gone}
 
 -- ---- the number of a refusal, and what it leaves
 
@@ -57,6 +59,15 @@ module _ {S : Type 0} (st : Storage S) (s : S) (table : ℕ) where
   unfolding readReply
   read-refusal version buffer = outcome-refused (readRefusals st s table version buffer) (refusedWith buffer) _ (λ r. r .code) (λ k. refl) refl
 
+module _ {S : Type 0} (st : Storage S) (s : S) (list : List ℕ) where
+  pub keep-exact : Exact (keepRefusals st s list) (keepReply st s list .code)
+  unfolding keepReply
+  keep-exact = outcome-exact (keepRefusals st s list) (refusedWith s) _ (λ r. r .code) (λ k. refl) refl
+
+  pub keep-refusal : (keepReply st s list .code ≡ 0 → ⊥) → keepReply st s list ≡ refusedWith s (keepReply st s list .code)
+  unfolding keepReply
+  keep-refusal = outcome-refused (keepRefusals st s list) (refusedWith s) _ (λ r. r .code) (λ k. refl) refl
+
 pub fresh-exact : (buffer : List ℕ) → Exact (freshRefusals buffer) (freshReply buffer .code)
 unfolding freshReply
 fresh-exact buffer = outcome-exact (freshRefusals buffer) (refusedWith buffer) _ (λ r. r .code) (λ k. refl) refl
@@ -83,6 +94,26 @@ shape-stays store c ok = after-holds store (savedOf store) (own store ok) c .sha
 pub others-stay : (store : List ℕ) (e : Saved) (i : ℕ) → i < 256 → (i ≡ freePlace store → ⊥) → place i (withSaved e store) ≡ place i store
 others-stay store e i h d = part-other 256 40 (freePlace store) i _ store h d
 
+-- ---- making room
+
+module _ (store list : List ℕ) where
+  -- the next number of a table stays, whether it is done or refused
+  pub keep-next : (table : ℕ) → next bytes (keepReply bytes store list .state) table ≡ next bytes store table
+  keep-next table = ap (λ (n : ℕ). n + 1) (newest-stays store list table)
+
+  module _ (done : keepReply bytes store list .code ≡ 0) where
+    -- what is found then is what is kept: the newest of each table and what is listed
+    pub keep-found : (table version : ℕ) → found table version (savedOf (keepReply bytes store list .state)) ≡ cond (isKept list (savedOf store) table version) (found table version (savedOf store)) nothing
+    keep-found = found-kept store list done
+
+    -- the value is the number of versions gone
+    pub keep-value : keepReply bytes store list .value + length (savedOf (keepReply bytes store list .state)) ≡ length (savedOf store)
+    keep-value = value-gone store list done
+
+    -- a place that is freed is as in a fresh store, and every other stays
+    pub keep-place : (i : ℕ) → i < 256 → place i (keepReply bytes store list .state) ≡ cond (isFreed (isKept list (savedOf store)) (place i store)) freePart (place i store)
+    keep-place = place-kept store list done
+
 -- ---- any sequence of calls
 
 -- from a fresh store on, the store holds exactly what the calls put in
@@ -106,31 +137,52 @@ module _ (cs : List Call) (table : ℕ) where
   pub read-answer : (version : ℕ) (buffer : List ℕ) → readReply bytes store table version buffer ≡ readReply listed list table version buffer
   read-answer version buffer = read-same store list (history cs) table version buffer
 
--- the list only grows, so nothing earlier is altered
-pub list-grows : (l : List Saved) (cs : List Call) → Grows l (afterAll listed l cs)
-list-grows = all-grow
+pub keep-answer : (cs : List Call) (list : List ℕ)
+    → (keepReply bytes (afterAll bytes freshStore cs) list .code ≡ keepReply listed (afterAll listed [] cs) list .code) × (keepReply bytes (afterAll bytes freshStore cs) list .value ≡ keepReply listed (afterAll listed [] cs) list .value)
+keep-answer cs list = let a = keep-agree (afterAll bytes freshStore cs) (afterAll listed [] cs) (history cs) list in (a .same-code, a .same-value)
 
--- and the versions of a table are 1, 2, 3, .. in the order of their saves and returns
-pub versions-in-order : (cs : List Call) (table : ℕ) → versionsOf table (afterAll listed [] cs) ≡ tabulate (newest table (afterAll listed [] cs)) (λ i. i + 1)
-unfolding versionsOf newest tabulate
-versions-in-order cs table = all-numbered [] (λ t. refl) cs table
+-- what the list held stays as it is or is gone, and what it gains has higher numbers
+pub list-follows : (l : List Saved) (cs : List Call) → Follows l (afterAll listed l cs)
+list-follows = all-follow
 
--- ---- what a version reads as, in any store of the right shape
+-- ---- in any store of the right shape
 
 module _ (store : List ℕ) (ok : storeOk store ≡ true) (table : ℕ) where
-  -- what a save took in is read back, byte by byte, whatever calls come between
+  -- the numbers that saves and returns give to a table are those behind its newest, each once and in order
+  pub numbers-in-order : (cs : List Call) → InOrder (newest table (savedOf store)) (newest table (savedOf (afterAll bytes store cs))) (given bytes table store cs)
+  numbers-in-order cs = rw (all-given table store (savedOf store) (own store ok) cs, all-hold store (savedOf store) (own store ok) cs .versions .same-newest table) (all-numbered table (savedOf store) cs)
+
+  -- what a save took in is read back, byte by byte, whatever calls come between, while it is held
   pub saved-read : (text : List ℕ) (cs : List Call) (buffer : List ℕ) → saveReply bytes store table text .code ≡ 0 → length text ≤ length buffer
+      → isHeld table (saveReply bytes store table text .value) (savedOf (afterAll bytes store (Save table text ∷ cs))) ≡ true
       → readReply bytes (afterAll bytes store (Save table text ∷ cs)) table (saveReply bytes store table text .value) buffer ≡ doneWith (length text) (text ++ drop (length text) buffer)
   unfolding afterAll
-  saved-read text cs buffer z k = saved-text store (savedOf store) (own store ok) table text cs buffer z k
+  saved-read text cs buffer z k held = saved-text store (savedOf store) (own store ok) table text cs buffer z k held
 
   -- the version that a return made reads as the one that it went back to
   pub returned-read : (version : ℕ) (cs : List Call) (buffer : List ℕ) → returnReply bytes store table version .code ≡ 0
+      → isHeld table (returnReply bytes store table version .value) (savedOf (afterAll bytes store (Return table version ∷ cs))) ≡ true
       → readReply bytes (afterAll bytes store (Return table version ∷ cs)) table (returnReply bytes store table version .value) buffer ≡ readReply bytes store table version buffer
   unfolding afterAll
-  returned-read version cs buffer z = returned-same store (savedOf store) (own store ok) table version cs buffer z
+  returned-read version cs buffer z held = returned-same store (savedOf store) (own store ok) table version cs buffer z held
 
-  -- a version that is held reads the same after any calls
-  pub kept-read : (version : ℕ) (setting : Setting) (cs : List Call) (buffer : List ℕ) → found table version (savedOf store) ≡ just setting
+  -- a version that was held and is held reads the same
+  pub kept-read : (version : ℕ) (cs : List Call) (buffer : List ℕ) → isHeld table version (savedOf store) ≡ true → isHeld table version (savedOf (afterAll bytes store cs)) ≡ true
       → readReply bytes (afterAll bytes store cs) table version buffer ≡ readReply bytes store table version buffer
-  kept-read version setting cs buffer f = kept-same store (savedOf store) (own store ok) table version setting cs buffer f
+  kept-read version cs buffer old now = kept-same store (savedOf store) (own store ok) table version cs buffer old now
+
+  -- a version that is gone is never read or gone back to again
+  module _ (version : ℕ) (low : version ≤ newest table (savedOf store)) (gone : found table version (savedOf store) ≡ nothing) (cs : List Call) where
+    pub gone-read : (buffer : List ℕ) → readReply bytes (afterAll bytes store cs) table version buffer ≡ refusedWith buffer 11
+    gone-read buffer =
+        read-missing bytes (afterAll bytes store cs) table version buffer (all-hold store (savedOf store) (own store ok) cs .shape) (gone-same store (savedOf store) (own store ok) table version cs low gone)
+
+    pub gone-return : next bytes (afterAll bytes store cs) table ≤ 2 ^ 48 → returnReply bytes (afterAll bytes store cs) table version ≡ refusedWith (afterAll bytes store cs) 11
+    gone-return few =
+        return-missing bytes (afterAll bytes store cs) table version (all-hold store (savedOf store) (own store ok) cs .shape) few (gone-same store (savedOf store) (own store ok) table version cs low gone)
+
+-- from a fresh store on the numbers are 1, 2, 3, ..
+pub versions-in-order : (cs : List Call) (table : ℕ) → given bytes table freshStore cs ≡ tabulate (newest table (savedOf (afterAll bytes freshStore cs))) (λ i. i + 1)
+unfolding newest
+versions-in-order cs table =
+    rw (all-given table freshStore [] fresh-holds cs, history cs .versions .same-newest table) (from-one (all-numbered table [] cs))

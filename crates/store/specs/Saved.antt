@@ -1,6 +1,6 @@
 -- What a store holds: versions of tables' settings (RULES, Settings).
 use Prim.Native.Nat.{ℕ, max}
-use mathlib.Core.Bool.{Bool, true, false, _&&_, cond}
+use mathlib.Core.Bool.{Bool, true, false, not, _&&_, cond}
 use mathlib.Core.List.{List, [], _∷_}
 use lib.Dec.{eqb}
 use Rattle.setting.specs.Setting.{settingText}
@@ -38,3 +38,11 @@ textOf (just s) = settingText s
 unfoldable pub found : ℕ → ℕ → List Saved → Found
 found table version [] = nothing
 found table version (e ∷ l) = cond (eqb (e .table) table && eqb (e .version) version) (just (e .setting)) (found table version l)
+
+abbrev pub isHeld : ℕ → ℕ → List Saved → Bool
+isHeld table version l = not (isNothing (found table version l))
+
+-- the versions that pass a test of table and version, in their order
+unfoldable pub only : (ℕ → ℕ → Bool) → List Saved → List Saved
+only keeps [] = []
+only keeps (e ∷ l) = cond (keeps (e .table) (e .version)) (e ∷ only keeps l) (only keeps l)

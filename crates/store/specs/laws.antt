@@ -1,7 +1,10 @@
 pub mod Bytes
 pub mod Saved
+pub mod Kept
 pub mod Layout
+pub mod Only
 pub mod Calls
+pub mod Room
 pub mod Judged
 pub mod History
 pub mod Listed

@@ -1,7 +1,7 @@
 -- A list given by its elements: its length, what stands at a place, and that a list is known by its elements.
-use mathlib.Core.Path.{_≡_, refl, sym, _∙_}
+use mathlib.Core.Path.{_≡_, refl, sym, ap, _∙_}
 use mathlib.Core.Logic.{⊎-elim}
-use mathlib.Core.List.{List, [], _∷_}
+use mathlib.Core.List.{List, [], _∷_, _++_}
 use Prim.Native.Nat.{ℕ, zero, suc, _<_}
 use native.Mathlib.Nat.{not-suc-le-zero, le-of-suc-le-suc, eq-or-lt-of-le, suc-inj}
 use native.Mathlib.Omega.{arith}
@@ -30,3 +30,15 @@ tabulated-below n f l h at =
 
 pub tabulated : (n : ℕ) (f : ℕ → ℕ) (l : List ℕ) → length l ≡ n → ((k : ℕ) → getD l k 0 ≡ f k) → l ≡ tabulate n f
 tabulated n f l h at = tabulated-below n f l h (λ k _. at k)
+
+-- its first element, and the others
+pub tabulate-first : (n : ℕ) (f : ℕ → ℕ) → tabulate (suc n) f ≡ f 0 ∷ tabulate n (λ i. f (suc i))
+unfolding tabulate
+tabulate-first zero f = refl
+tabulate-first (suc n) f = ap (λ (l : List ℕ). l ++ f (suc n) ∷ []) (tabulate-first n f)
+
+-- two that agree at each place
+pub tabulate-alike : (n : ℕ) (f g : ℕ → ℕ) → ((k : ℕ) → f k ≡ g k) → tabulate n f ≡ tabulate n g
+unfolding tabulate
+tabulate-alike zero f g e = refl
+tabulate-alike (suc n) f g e = rw (tabulate-alike n f g e, e n) refl

@@ -1,10 +1,10 @@
 -- How a call's reply comes about: done or refused, over any storage.
-use Prim.Native.Nat.{ℕ, _+_, _≤_, _<_}
+use Prim.Native.Nat.{ℕ, _+_, _%_, _^_, _≤_, _<_}
 use mathlib.Core.Path.{_≡_, refl, sym, ap, _∙_}
-use mathlib.Core.Bool.{Bool, true, false}
+use mathlib.Core.Bool.{Bool, true, false, not}
 use mathlib.Core.List.{List, [], _∷_, _++_}
 use native.Mathlib.Omega.{arith}
-use lib.Dec.{eqb}
+use lib.Dec.{leb, eqb}
 use lib.ListN.{length, drop}
 use borrow.Author.Tests.{eq-eqb, ne-eqb, lt-ltb, le-ltb}
 use Rattle.basics.specs.laws.Logic.{tested, holds, fails}
@@ -14,9 +14,10 @@ use Rattle.refusals.specs.laws.Outcome.{done-is, refused-is}
 use Rattle.setting.specs.Reader.{settingOf}
 use Rattle.setting.specs.Setting.{settingText}
 use Rattle.setting.specs.declared.Setting.{Setting}
-use Rattle.store.specs.Saved.{saved, nothing, just, found}
+use Rattle.store.specs.Saved.{saved, nothing, just, found, only}
 use Rattle.store.specs.Layout.{storeSize, freshStore}
-use Rattle.store.specs.Calls.{Reply, replied, Storage, refusedWith, doneWith, next, saveRefusals, saveReply, again, returnRefusals, returnReply, readRefusals, readReply, freshRefusals, freshReply}
+use Rattle.store.specs.Calls.{Reply, replied, Storage, refusedWith, doneWith, next, saveRefusals, saveReply, again, returnRefusals, returnReply, readRefusals, readReply, keepRefusals, keepReply, freshRefusals, freshReply}
+use Rattle.store.specs.Kept.{allHeld, isKept}
 
 -- ---- a fresh store
 
@@ -41,6 +42,50 @@ four-first : (a b : Bool) → codeOf (refuse 4 true ∷ refuse 8 a ∷ refuse 11
 unfolding codeOf least
 four-first a b = code-first (refuse 4 true ∷ []) (refuse 8 a ∷ refuse 11 b ∷ []) 4 (λ z. omega arith) (omega arith) refl
 
+eleven-then : (b : Bool) → 11 ≡ codeOf (refuse 11 true ∷ refuse 12 b ∷ [])
+unfolding codeOf least
+eleven-then true = refl
+eleven-then false = refl
+
+four-then : (b : Bool) → 4 ≡ codeOf (refuse 4 true ∷ refuse 11 b ∷ [])
+unfolding codeOf least
+four-then true = refl
+four-then false = refl
+
+four-both : (a b : Bool) → 4 ≡ codeOf (refuse 4 true ∷ refuse 4 a ∷ refuse 11 b ∷ [])
+unfolding codeOf least
+four-both true true = refl
+four-both true false = refl
+four-both false true = refl
+four-both false false = refl
+
+module _ {S : Type 0} (st : Storage S) (s : S) (list : List ℕ) where
+  pub keep-done : codeOf (keepRefusals st s list) ≡ 0
+      → keepReply st s list ≡ doneWith (length (only (λ table version. not (isKept list (st .holds s) table version)) (st .holds s))) (st .keep (isKept list (st .holds s)) s)
+  unfolding keepReply
+  keep-done z = done-is (keepRefusals st s list) (refusedWith s) _ z
+
+  -- its code, from what is found
+  pub keep-unsound : st .sound s ≡ false → 4 ≡ codeOf (keepRefusals st s list)
+  unfolding keepRefusals
+  keep-unsound e = rw e (four-both (eqb (length list % 2) 1) (not (allHeld list (st .holds s))))
+
+  pub keep-odd : st .sound s ≡ true → length list % 2 ≡ 1 → 4 ≡ codeOf (keepRefusals st s list)
+  unfolding keepRefusals codeOf least
+  keep-odd e o = rw (e, eq-eqb (length list % 2) 1 o) (four-then (not (allHeld list (st .holds s))))
+
+  pub keep-missing : st .sound s ≡ true → (length list % 2 ≡ 1 → ⊥) → allHeld list (st .holds s) ≡ false → 11 ≡ codeOf (keepRefusals st s list)
+  unfolding keepRefusals codeOf least
+  keep-missing e o h = rw (e, ne-eqb (length list % 2) 1 o, h) refl
+
+  pub keep-clear : st .sound s ≡ true → (length list % 2 ≡ 1 → ⊥) → allHeld list (st .holds s) ≡ true → 0 ≡ codeOf (keepRefusals st s list)
+  unfolding keepRefusals codeOf least
+  keep-clear e o h = rw (e, ne-eqb (length list % 2) 1 o, h) refl
+
+  pub keep-refused : (codeOf (keepRefusals st s list) ≡ 0 → ⊥) → keepReply st s list ≡ refusedWith s (codeOf (keepRefusals st s list))
+  unfolding keepReply
+  keep-refused n = refused-is (keepRefusals st s list) (refusedWith s) _ n
+
 module _ {S : Type 0} (st : Storage S) (s : S) (table : ℕ) where
   pub save-done : (text : List ℕ) → codeOf (saveRefusals st s table text) ≡ 0 → saveReply st s table text ≡ doneWith (next st s table) (st .with (saved table (next st s table) (settingOf text)) s)
   unfolding saveReply
@@ -57,6 +102,12 @@ module _ {S : Type 0} (st : Storage S) (s : S) (table : ℕ) where
   pub return-refused : (version : ℕ) → (codeOf (returnRefusals st s table version) ≡ 0 → ⊥) → returnReply st s table version ≡ refusedWith s (codeOf (returnRefusals st s table version))
   unfolding returnReply
   return-refused version n = refused-is (returnRefusals st s table version) (refusedWith s) _ n
+
+  pub return-missing : (version : ℕ) → st .sound s ≡ true → next st s table ≤ 2 ^ 48 → found table version (st .holds s) ≡ nothing → returnReply st s table version ≡ refusedWith s 11
+  unfolding returnRefusals codeOf least
+  return-missing version e few f =
+      let code : codeOf (returnRefusals st s table version) ≡ 11 = rw (e, f, le-ltb (2 ^ 48) (next st s table) few) (sym (eleven-then (leb 256 (length (st .holds s))))) in
+      return-refused version (λ z. omega (arith, code, z)) ∙ ap (refusedWith s) code
 
   -- a read, by what is found
   module _ (version : ℕ) (buffer : List ℕ) where

@@ -1,27 +1,29 @@
 -- A call on a store and on the list of what it holds: the same answer, and it holds the list afterwards.
 use Prim.Native.Nat.{ℕ, _+_, _^_, _≤_, _<_}
 use mathlib.Core.Path.{_≡_, refl, sym, ap, _∙_}
-use mathlib.Core.Bool.{Bool, true, false, true≢false}
+use mathlib.Core.Bool.{Bool, true, false, cond, true≢false}
 use mathlib.Core.List.{List, [], _∷_, _++_}
 use native.Mathlib.Omega.{arith}
 use lib.Dec.{leb, eqb}
 use lib.ListN.{length}
-use borrow.Author.Tests.{eqb-true, eqb-false, leb-false, ltb-false}
+use borrow.Author.Tests.{eqb-true, leb-false, ltb-false}
 use Rattle.basics.specs.laws.Below.{first-holds}
 use Rattle.basics.specs.laws.Logic.{tested, holds, fails}
-use Rattle.refusals.specs.Refusals.{Refusal, codeOf}
+use Rattle.refusals.specs.Refusals.{Refusal, codeOf, outcome}
 use Rattle.refusals.specs.laws.Refusals.{NoneHolds, none-both, none-code, accepted}
 use Rattle.setting.specs.Reader.{textRefusals, settingOf}
 use Rattle.setting.specs.Setting.{settingOk}
 use Rattle.setting.specs.Promises.{read-setting}
 use Rattle.setting.specs.declared.Setting.{Setting}
-use Rattle.store.specs.Saved.{Saved, saved, Found, nothing, just, isNothing, found}
-use Rattle.store.specs.Layout.{savedOf, freePlace, withSaved, versionIn, place}
-use Rattle.store.specs.Calls.{Reply, bytes, next, putRefusals, saveRefusals, saveReply, again, returnRefusals, returnReply, readRefusals, readReply}
-use Rattle.store.specs.History.{Call, Save, Return, Read, after, afterAll, listed, Holds}
-use Rattle.store.specs.laws.Calls.{save-done, save-refused, return-done, return-refused}
+use Rattle.store.specs.Saved.{Saved, saved, Found, nothing, just, isNothing, found, only}
+use Rattle.store.specs.Kept.{isKept}
+use Rattle.store.specs.Layout.{savedOf, freePlace, withSaved, withOnly, versionIn, place}
+use Rattle.store.specs.Calls.{Reply, bytes, refusedWith, next, putRefusals, saveRefusals, saveReply, again, returnRefusals, returnReply, readRefusals, readReply, keepRefusals, keepReply}
+use Rattle.store.specs.History.{Call, Save, Return, Read, Keep, numberIn, after, afterAll, givenBy, given, listed, Holds}
 use Rattle.store.specs.laws.Layout.{IsSaved, inserted-below, put-ok, full-is, found-held}
 use Rattle.store.specs.laws.Saved.{inserted-alike, alike-trans, alike-more, alike-long}
+use Rattle.store.specs.laws.Kept.{held-alike, gone-alike, kept-alike}
+use Rattle.store.specs.laws.Only.{left-ok, left-holds}
 
 -- ---- one version more
 
@@ -68,6 +70,16 @@ pub record Agree (r : Reply (List ℕ)) (q : Reply (List Saved)) : Type 0 where
   pub same-value : r .value ≡ q .value
   pub same-state : Holds (r .state) (q .state)
 
+-- with the same refusals, done or refused
+agree-by : (store : List ℕ) (l : List Saved) → Holds store l → (a b : List Refusal) → a ≡ b → (r : Reply (List ℕ)) (q : Reply (List Saved)) → (codeOf a ≡ 0 → Agree r q)
+    → Agree (outcome a (refusedWith store) r) (outcome b (refusedWith l) q)
+agree-by store l h a b same r q done =
+    rw (← same)
+    (elim (tested (eqb (codeOf a) 0)) [
+      | holds t ↦ rw t (done (eqb-true (codeOf a) 0 t))
+      | fails t ↦ rw t (record { same-code = refl; same-value = refl; same-state = h })
+    ])
+
 module _ (store : List ℕ) (l : List Saved) (h : Holds store l) (table : ℕ) where
   same-next : next bytes store table ≡ next listed l table
   same-next = ap (λ (n : ℕ). n + 1) (h .versions .same-newest table)
@@ -90,18 +102,10 @@ module _ (store : List ℕ) (l : List Saved) (h : Holds store l) (table : ℕ) w
         (room-left store table (leb 64 table) (none .1))
 
     pub save-agree : Agree (saveReply bytes store table text) (saveReply listed l table text)
+    unfolding saveReply
     save-agree =
-        let same = ap codeOf save-same in
-        elim (tested (eqb (codeOf (saveRefusals bytes store table text)) 0)) [
-          | holds t ↦
-              let z = eqb-true (codeOf (saveRefusals bytes store table text)) 0 t in
-              rw (save-done bytes store table text z, save-done listed l table text (sym same ∙ z))
-              (record { same-code = refl; same-value = same-next; same-state = save-holds z })
-          | fails t ↦
-              let n = eqb-false (codeOf (saveRefusals bytes store table text)) 0 t in
-              rw (save-refused bytes store table text n, save-refused listed l table text (λ z. n (same ∙ z)))
-              (record { same-code = same; same-value = refl; same-state = h })
-        ]
+        agree-by store l h (saveRefusals bytes store table text) (saveRefusals listed l table text) save-same _ _
+        (λ z. record { same-code = refl; same-value = same-next; same-state = save-holds z })
 
   module _ (version : ℕ) where
     same-found : found table version (savedOf store) ≡ found table version l
@@ -126,22 +130,32 @@ module _ (store : List ℕ) (l : List Saved) (h : Holds store l) (table : ℕ) w
         (again-holds (found table version (savedOf store)) refl (accepted (returnRefusals bytes store table version) refl z))
 
     pub return-agree : Agree (returnReply bytes store table version) (returnReply listed l table version)
+    unfolding returnReply
     return-agree =
-        let same = ap codeOf return-same in
-        elim (tested (eqb (codeOf (returnRefusals bytes store table version)) 0)) [
-          | holds t ↦
-              let z = eqb-true (codeOf (returnRefusals bytes store table version)) 0 t in
-              rw (return-done bytes store table version z, return-done listed l table version (sym same ∙ z))
-              (record { same-code = refl; same-value = same-next; same-state = return-holds z })
-          | fails t ↦
-              let n = eqb-false (codeOf (returnRefusals bytes store table version)) 0 t in
-              rw (return-refused bytes store table version n, return-refused listed l table version (λ z. n (same ∙ z)))
-              (record { same-code = same; same-value = refl; same-state = h })
-        ]
+        agree-by store l h (returnRefusals bytes store table version) (returnRefusals listed l table version) return-same _ _
+        (λ z. record { same-code = refl; same-value = same-next; same-state = return-holds z })
 
     pub read-same : (buffer : List ℕ) → readReply bytes store table version buffer ≡ readReply listed l table version buffer
     unfolding readReply readRefusals
     read-same buffer = rw (h .shape, same-found) refl
+
+module _ (store : List ℕ) (l : List Saved) (h : Holds store l) (list : List ℕ) where
+  keep-same : keepRefusals bytes store list ≡ keepRefusals listed l list
+  unfolding keepRefusals
+  keep-same = rw (h .shape, held-alike list (h .versions)) refl
+
+  keep-holds : Holds (withOnly (isKept list (savedOf store)) store) (only (isKept list l) l)
+  keep-holds =
+      record {
+        shape = left-ok (isKept list (savedOf store)) store 256 (omega arith) (h .shape);
+        versions = rw (left-holds (isKept list (savedOf store)) store 256 (omega arith)) (kept-alike list (h .versions));
+      }
+
+  pub keep-agree : Agree (keepReply bytes store list) (keepReply listed l list)
+  unfolding keepReply
+  keep-agree =
+      agree-by store l h (keepRefusals bytes store list) (keepRefusals listed l list) keep-same _ _
+      (λ z. record { same-code = refl; same-value = gone-alike list (h .versions); same-state = keep-holds })
 
 -- ---- any calls
 
@@ -149,8 +163,26 @@ pub after-holds : (store : List ℕ) (l : List Saved) → Holds store l → (c :
 after-holds store l h (Save table text) = save-agree store l h table text .same-state
 after-holds store l h (Return table version) = return-agree store l h table version .same-state
 after-holds store l h (Read table version buffer) = h
+after-holds store l h (Keep list) = keep-agree store l h list .same-state
 
 pub all-hold : (store : List ℕ) (l : List Saved) → Holds store l → (cs : List Call) → Holds (afterAll bytes store cs) (afterAll listed l cs)
 unfolding afterAll
 all-hold store l h [] = h
 all-hold store l h (c ∷ cs) = all-hold (after bytes store c) (after listed l c) (after-holds store l h c) cs
+
+-- and the numbers that they give
+
+same-number : {r : Reply (List ℕ)} {q : Reply (List Saved)} → Agree r q → numberIn r ≡ numberIn q
+same-number a = rw (a .same-code, a .same-value) refl
+
+given-by : (table : ℕ) (store : List ℕ) (l : List Saved) → Holds store l → (c : Call) → givenBy bytes table store c ≡ givenBy listed table l c
+given-by table store l h (Save own text) = ap (λ (k : List ℕ). cond (eqb own table) k []) (same-number (save-agree store l h own text))
+given-by table store l h (Return own version) = ap (λ (k : List ℕ). cond (eqb own table) k []) (same-number (return-agree store l h own version))
+given-by table store l h (Read own version buffer) = refl
+given-by table store l h (Keep list) = refl
+
+pub all-given : (table : ℕ) (store : List ℕ) (l : List Saved) → Holds store l → (cs : List Call) → given bytes table store cs ≡ given listed table l cs
+unfolding given
+all-given table store l h [] = refl
+all-given table store l h (c ∷ cs) =
+    rw (given-by table store l h c, all-given table (after bytes store c) (after listed l c) (after-holds store l h c) cs) refl

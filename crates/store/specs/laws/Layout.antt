@@ -71,7 +71,7 @@ module _ (e : Saved) (s : IsSaved e) where
   saved-back : savedAt (placeOf e) ≡ e ∷ []
   saved-back = rw (version-back, ne-eqb (e .version) 0 (λ z. omega (arith, s .above)), table-back, setting-back) refl
 
-  pub place-ok : placeOk (placeOf e) ≡ true
+  place-ok : placeOk (placeOf e) ≡ true
   unfolding placeOk digits
   place-ok =
       rw (version-back, ne-eqb (e .version) 0 (λ z. omega (arith, s .above)), le-leb (e .version) (2 ^ 48) (s .below), lt-ltb (e .table) 64 (s .table), kind-few (e .setting .chip), setting-back, s .setting) refl
@@ -86,6 +86,11 @@ module _ (store : List ℕ) (i : ℕ) (long : length store ≡ storeSize) (there
 
   pub lent-long : length (take (40 * i + 40 - 40 * i) (drop (40 * i) store)) ≡ 40
   lent-long = rw place-lent (part-long 40 i store)
+
+  pub place-back : (p : List ℕ) → length p ≡ 40 → take (40 * i) store ++ (p ++ drop (40 * i + 40 - 40 * i) (drop (40 * i) store)) ≡ withPart 256 40 i p store
+  place-back p wide =
+      let e : 40 * i + 40 - 40 * i ≡ 40 = omega arith in
+      rw e (part-back 256 40 i store long there p wide)
 
 -- ---- how a place is judged
 
@@ -239,26 +244,38 @@ module _ (store : List ℕ) where
             ])
       ]
 
--- ---- one version more
+-- ---- a place written
 
-module _ (e : Saved) (is : IsSaved e) (store : List ℕ) (i : ℕ) (there : i < 256) where
+module _ (p : List ℕ) (long : length p ≡ 40) (store : List ℕ) (i : ℕ) (there : i < 256) where
   abbrev next : List ℕ
-  next = withPart 256 40 i (placeOf e) store
+  next = withPart 256 40 i p store
 
-  at-place : place i next ≡ placeOf e
-  at-place = part-same 256 40 i (placeOf e) store there (place-long e is)
+  pub at-place : place i next ≡ p
+  at-place = part-same 256 40 i p store there long
 
-  elsewhere : (j : ℕ) → j < 256 → (j ≡ i → ⊥) → place j next ≡ place j store
-  elsewhere j h d = part-other 256 40 i j (placeOf e) store h d
+  pub elsewhere : (j : ℕ) → j < 256 → (j ≡ i → ⊥) → place j next ≡ place j store
+  elsewhere j h d = part-other 256 40 i j p store h d
 
-  before-same : (n : ℕ) → n ≤ i → savedBelow n next ≡ savedBelow n store
+  pub before-same : (n : ℕ) → n ≤ i → savedBelow n next ≡ savedBelow n store
   unfolding savedBelow
   before-same zero h = refl
   before-same (suc n) h =
       rw (before-same n (omega arith), elsewhere n (omega arith) (λ q. omega arith)) refl
 
-  -- where the place was free
-  pub inserted-below : versionIn (place i store) ≡ 0 → (n : ℕ) → n ≤ 256 → i < n → Inserted e (savedBelow n store) (savedBelow n next)
+  -- a store of the right shape stays so
+  pub with-ok : placeOk p ≡ true → storeOk store ≡ true → storeOk next ≡ true
+  unfolding storeOk
+  with-ok good ok =
+      let all-good = and-right (eqb (length store) storeSize) (allBelow 256 (λ j. placeOk (place j store))) ok in
+      rw (with-part-long 256 40 i p store)
+      (below-all (λ j. placeOk (place j next)) 256 (λ j h. elim (tested (eqb j i)) [
+        | holds t ↦ rw (eqb-true j i t, at-place) good
+        | fails t ↦ rw (elsewhere j h (eqb-false j i t)) (below-at (λ j. placeOk (place j store)) j 256 h all-good)
+      ]))
+
+-- a version is put where the place was free
+module _ (e : Saved) (is : IsSaved e) (store : List ℕ) (i : ℕ) (there : i < 256) where
+  pub inserted-below : versionIn (place i store) ≡ 0 → (n : ℕ) → n ≤ 256 → i < n → Inserted e (savedBelow n store) (savedBelow n (withPart 256 40 i (placeOf e) store))
   unfolding savedBelow
   inserted-below z zero h l = absurd (omega arith)
   inserted-below z (suc n) h l =
@@ -268,7 +285,7 @@ module _ (e : Saved) (is : IsSaved e) (store : List ℕ) (i : ℕ) (there : i < 
         before = savedBelow n store;
         behind = [];
         old = ap (λ (t : List Saved). savedBelow n store ++ t) (rw (← f, eq-eqb (versionIn (place i store)) 0 z) refl);
-        new = rw (before-same n (omega arith), ← f, at-place, saved-back e is) refl;
+        new = rw (before-same (placeOf e) (place-long e is) store i there n (omega arith), ← f, at-place (placeOf e) (place-long e is) store i there, saved-back e is) refl;
       })
       (λ (k : suc i < suc n).
       let r = inserted-below z n (omega arith) (le-of-suc-le-suc k) in
@@ -276,20 +293,12 @@ module _ (e : Saved) (is : IsSaved e) (store : List ℕ) (i : ℕ) (there : i < 
         before = r .before;
         behind = r .behind ++ savedAt (place n store);
         old = rw (r .old) (append-assoc (r .before) (r .behind) (savedAt (place n store)));
-        new = rw (r .new, elsewhere n (omega arith) (λ q. omega arith)) (append-assoc (r .before) (e ∷ r .behind) (savedAt (place n store)));
+        new = rw (r .new, elsewhere (placeOf e) (place-long e is) store i there n (omega arith) (λ q. omega arith)) (append-assoc (r .before) (e ∷ r .behind) (savedAt (place n store)));
       })
       (eq-or-lt-of-le l)
 
-  -- a store of the right shape stays so
-  pub put-ok : storeOk store ≡ true → storeOk next ≡ true
-  unfolding storeOk
-  put-ok ok =
-      let good = and-right (eqb (length store) storeSize) (allBelow 256 (λ j. placeOk (place j store))) ok in
-      rw (with-part-long 256 40 i (placeOf e) store)
-      (below-all (λ j. placeOk (place j next)) 256 (λ j h. elim (tested (eqb j i)) [
-        | holds t ↦ rw (eqb-true j i t, at-place) (place-ok e is)
-        | fails t ↦ rw (elsewhere j h (eqb-false j i t)) (below-at (λ j. placeOk (place j store)) j 256 h good)
-      ]))
+  pub put-ok : storeOk store ≡ true → storeOk (withPart 256 40 i (placeOf e) store) ≡ true
+  put-ok ok = with-ok (placeOf e) (place-long e is) store i there (place-ok e is) ok
 
 -- ---- how a store is judged
 

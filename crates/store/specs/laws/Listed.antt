@@ -1,104 +1,177 @@
--- The list of what calls put in: it grows, what is found stays found, and the versions of a table are 1, 2, 3, ..
-use Prim.Native.Nat.{ℕ, _+_}
+-- The list of what calls put in and leave: what it keeps of an earlier one, what is found in both, and the numbers that calls give.
+use Prim.Native.Nat.{ℕ, suc, _+_, _≤_}
 use mathlib.Core.Path.{_≡_, refl, sym, ap, _∙_}
+use mathlib.Core.Bool.{Bool, true, false, _&&_, cond, true≢false}
 use mathlib.Core.List.{List, [], _∷_, _++_, append-assoc, append-nil}
-use native.Mathlib.Numerals.{add-one}
 use native.Mathlib.Omega.{arith}
-use lib.Dec.{eqb}
-use borrow.Author.Tests.{eq-eqb, eqb-true, eqb-false}
+use lib.Dec.{eqb, ltb}
+use borrow.Author.Tests.{eq-eqb, ne-eqb, eqb-true, ltb-true, ltb-false}
 use Rattle.basics.specs.Tabulate.{tabulate}
-use Rattle.basics.specs.laws.Logic.{tested, holds, fails}
-use Rattle.refusals.specs.Refusals.{codeOf}
-use Rattle.setting.specs.Reader.{settingOf}
+use Rattle.basics.specs.laws.Logic.{tested, holds, fails, and-left, and-right}
+use Rattle.basics.specs.laws.Tabulate.{tabulate-first, tabulate-alike}
+use Rattle.refusals.specs.laws.Outcome.{outcome-is}
+use Rattle.refusals.specs.laws.Refusals.{NoneHolds}
+use Rattle.setting.specs.Reader.{textRefusals, settingOf}
 use Rattle.setting.specs.declared.Setting.{Setting}
-use Rattle.store.specs.Saved.{Saved, saved, newest, Found, nothing, just, found}
-use Rattle.store.specs.Calls.{next, saveRefusals, again, returnRefusals}
-use Rattle.store.specs.History.{Call, Save, Return, Read, after, afterAll, listed, versionsOf, Grows}
-use Rattle.store.specs.laws.Calls.{save-done, save-refused, return-done, return-refused}
-use Rattle.store.specs.laws.Saved.{found-both, newest-both, above-newest}
+use Rattle.store.specs.Saved.{Saved, saved, newest, Found, nothing, just, isNothing, found, isHeld, only}
+use Rattle.store.specs.Kept.{isKept}
+use Rattle.store.specs.Calls.{Reply, refusedWith, doneWith, next, putRefusals, saveRefusals, saveReply, again, returnRefusals, returnReply, keepRefusals, keepReply}
+use Rattle.store.specs.History.{Call, Save, Return, Read, Keep, numberIn, after, afterAll, givenBy, given, listed, Follows, InOrder}
+use Rattle.store.specs.laws.Saved.{orElse, or-nothing, found-both, newest-both, above-newest}
+use Rattle.store.specs.laws.Kept.{only-both, only-all, only-twice, found-only, kept-newest}
 
--- what a call leaves: the list as it was, or with the table's next version behind it
-pub data Left (l m : List Saved) : Type 0 where
-  stays : m ≡ l → Left l m
-  gains : (table : ℕ) (setting : Setting) → m ≡ l ++ saved table (next listed l table) setting ∷ [] → Left l m
+-- what a call leaves, and the numbers that it gives to tables: the list as it was; with a table's next version behind it; or with only some of its versions, the newest of each table among them
+pub data Left (l m : List Saved) (numbers : ℕ → List ℕ) : Type 0 where
+  stays : m ≡ l → ((table : ℕ) → numbers table ≡ []) → Left l m numbers
+  gains : (own : ℕ) (setting : Setting) → m ≡ l ++ saved own (next listed l own) setting ∷ [] → ((table : ℕ) → numbers table ≡ cond (eqb own table) (next listed l own ∷ []) []) → Left l m numbers
+  frees : (keeps : ℕ → ℕ → Bool) → m ≡ only keeps l → ((table : ℕ) → newest table m ≡ newest table l) → ((table : ℕ) → numbers table ≡ []) → Left l m numbers
 
-again-left : (l : List Saved) (table : ℕ) (f : Found) (m : List Saved) → m ≡ again listed l table f → Left l m
-again-left l table nothing m e = stays e
-again-left l table (just setting) m e = gains table setting e
+-- a save or a return to a table, by its reply
+abbrev LeftBy : List Saved → ℕ → Reply (List Saved) → Type 0
+LeftBy l own r = Left l (r .state) (λ table. cond (eqb own table) (numberIn r) [])
 
-after-left : (l : List Saved) (c : Call) → Left l (after listed l c)
-after-left l (Read table version buffer) = stays refl
-after-left l (Save table text) =
-    elim (tested (eqb (codeOf (saveRefusals listed l table text)) 0)) [
-      | holds t ↦ gains table (settingOf text) (ap (λ r. r .state) (save-done listed l table text (eqb-true _ 0 t)))
-      | fails t ↦ stays (ap (λ r. r .state) (save-refused listed l table text (eqb-false _ 0 t)))
+turned-away : (l : List Saved) (own k : ℕ) → (k ≡ 0 → ⊥) → LeftBy l own (refusedWith l k)
+turned-away l own k n =
+    stays refl (λ table. rw (ne-eqb k 0 n) (elim (tested (eqb own table)) [ holds t ↦ rw t refl | fails t ↦ rw t refl ]))
+
+again-left : (l : List Saved) (own : ℕ) (f : Found) → NoneHolds (putRefusals listed l own (isNothing f)) → LeftBy l own (doneWith (next listed l own) (again listed l own f))
+again-left l own nothing none = absurd (true≢false (none .1 .1 .0))
+again-left l own (just setting) none = gains own setting refl (λ table. refl)
+
+after-left : (l : List Saved) (c : Call) → Left l (after listed l c) (λ table. givenBy listed table l c)
+unfolding saveReply saveRefusals textRefusals returnReply returnRefusals keepReply keepRefusals
+after-left l (Save own text) =
+    outcome-is (saveRefusals listed l own text) (refusedWith l) _ (LeftBy l own) refl (turned-away l own _) (λ none. gains own (settingOf text) refl (λ table. refl))
+after-left l (Return own version) =
+    outcome-is (returnRefusals listed l own version) (refusedWith l) _ (LeftBy l own) refl (turned-away l own _) (again-left l own (found own version l))
+after-left l (Read own version buffer) = stays refl (λ table. refl)
+after-left l (Keep list) =
+    outcome-is (keepRefusals listed l list) (refusedWith l) _ (λ r. Left l (r .state) (λ table. [])) refl (λ n. stays refl (λ table. refl))
+    (λ none. frees (isKept list l) refl (λ table. kept-newest list table l) (λ table. refl))
+
+-- ---- what is kept of an earlier list
+
+found-above : (own : ℕ) (setting : Setting) (l : List Saved) (table version : ℕ) → version ≤ newest table l → found table version (saved own (next listed l own) setting ∷ []) ≡ nothing
+unfolding found
+found-above own setting l table version h =
+    elim (tested (eqb own table && eqb (next listed l own) version)) [
+      | holds t ↦
+          let same = eqb-true own table (and-left (eqb own table) (eqb (next listed l own) version) t) in
+          let is = eqb-true (next listed l own) version (and-right (eqb own table) (eqb (next listed l own) version) t) in
+          absurd (omega (arith, rw same at is))
+      | fails t ↦ rw t refl
     ]
-after-left l (Return table version) =
-    elim (tested (eqb (codeOf (returnRefusals listed l table version)) 0)) [
-      | holds t ↦ again-left l table (found table version l) _ (ap (λ r. r .state) (return-done listed l table version (eqb-true _ 0 t)))
-      | fails t ↦ stays (ap (λ r. r .state) (return-refused listed l table version (eqb-false _ 0 t)))
-    ]
 
--- ---- it grows
+follows-by : {l m : List Saved} {numbers : ℕ → List ℕ} → Left l m numbers → Follows l m
+unfolding found
+follows-by {l} (stays e g) =
+    record { keeps = λ table version. true; more = []; follows = e ∙ sym (append-nil _ ∙ only-all l); above = λ t v h. refl }
+follows-by {l} (gains own setting e g) =
+    record {
+      keeps = λ table version. true;
+      more = saved own (next listed l own) setting ∷ [];
+      follows = e ∙ ap (λ (k : List Saved). k ++ saved own (next listed l own) setting ∷ []) (sym (only-all l));
+      above = found-above own setting l;
+    }
+follows-by {l} (frees keeps e n g) = record { keeps = keeps; more = []; follows = e ∙ sym (append-nil _); above = λ t v h. refl }
 
-grows-by : (l m : List Saved) → Left l m → Grows l m
-grows-by l m (stays e) = record { more = []; grown = e ∙ sym (append-nil l) }
-grows-by l m (gains table setting e) = record { more = saved table (next listed l table) setting ∷ []; grown = e }
+no-less : {l m : List Saved} {numbers : ℕ → List ℕ} → Left l m numbers → (table : ℕ) → newest table l ≤ newest table m
+no-less (stays e g) table = rw e (omega arith)
+no-less {l} (gains own setting e g) table = rw e (omega (arith, newest-both table l (saved own (next listed l own) setting ∷ [])))
+no-less (frees keeps e n g) table = omega (arith, n table)
 
-grows-on : {k l m : List Saved} → Grows k l → Grows l m → Grows k m
-grows-on {k} {l} {m} a b =
-    record { more = a .more ++ b .more; grown = b .grown ∙ rw (a .grown) (append-assoc k (a .more) (b .more)) }
+none-either : (b : Bool) → cond b nothing nothing ≡ nothing
+none-either true = refl
+none-either false = refl
 
-pub all-grow : (l : List Saved) (cs : List Call) → Grows l (afterAll listed l cs)
+follows-on : {k l m : List Saved} → Follows k l → ((table : ℕ) → newest table k ≤ newest table l) → Follows l m → Follows k m
+follows-on {k} {l} {m} a n b =
+    record {
+      keeps = λ table version. a .keeps table version && b .keeps table version;
+      more = only (b .keeps) (a .more) ++ b .more;
+      follows = b .follows ∙ rw (a .follows, only-both (b .keeps) (only (a .keeps) k) (a .more), only-twice (a .keeps) (b .keeps) k) (append-assoc (only (λ table version. a .keeps table version && b .keeps table version) k) (only (b .keeps) (a .more)) (b .more));
+      above = λ t v h.
+          found-both t v (only (b .keeps) (a .more)) (b .more)
+          ∙ rw (found-only (b .keeps) t v (a .more), a .above t v h, none-either (b .keeps t v)) (b .above t v (omega (arith, n t)));
+    }
+
+pub all-follow : (l : List Saved) (cs : List Call) → Follows l (afterAll listed l cs)
 unfolding afterAll
-all-grow l [] = record { more = []; grown = sym (append-nil l) }
-all-grow l (c ∷ cs) = grows-on (grows-by l (after listed l c) (after-left l c)) (all-grow (after listed l c) cs)
+all-follow l [] = follows-by (stays refl (λ table. refl))
+all-follow l (c ∷ cs) =
+    let left = after-left l c in
+    follows-on (follows-by left) (no-less left) (all-follow (after listed l c) cs)
 
--- what is found stays found
-pub found-stays : (table version : ℕ) (l m : List Saved) (setting : Setting) → Grows l m → found table version l ≡ just setting → found table version m ≡ just setting
-found-stays table version l m setting g e = ap (found table version) (g .grown) ∙ found-both table version l (g .more) ∙ rw e refl
+-- ---- what is found in both
 
--- and the next version is found
+module _ (table version : ℕ) (l m : List Saved) (f : Follows l m) (low : version ≤ newest table l) where
+  found-later : found table version m ≡ cond (f .keeps table version) (found table version l) nothing
+  found-later =
+      ap (found table version) (f .follows)
+      ∙ found-both table version (only (f .keeps) l) (f .more)
+      ∙ rw (f .above table version low, or-nothing (found table version (only (f .keeps) l))) (found-only (f .keeps) table version l)
+
+  -- a version that is still held is what it was
+  pub still-found : isHeld table version m ≡ true → found table version m ≡ found table version l
+  still-found h =
+      elim (tested (f .keeps table version)) [
+        | holds t ↦ found-later ∙ rw t refl
+        | fails t ↦ absurd (true≢false (sym h ∙ rw (found-later, t) refl))
+      ]
+
+  -- and one that is gone stays so
+  pub still-gone : found table version l ≡ nothing → found table version m ≡ nothing
+  still-gone e = found-later ∙ rw (e, none-either (f .keeps table version)) refl
+
+-- a version that is held is not above the newest
+pub held-low : (table version : ℕ) (l : List Saved) → isHeld table version l ≡ true → version ≤ newest table l
+held-low table version l h =
+    elim (tested (ltb (newest table l) version)) [
+      | holds t ↦ absurd (true≢false (sym h ∙ rw (above-newest table version l (ltb-true (newest table l) version t)) refl))
+      | fails t ↦ ltb-false (newest table l) version t
+    ]
+
+-- the next version is found
 pub found-next : (table : ℕ) (l : List Saved) (setting : Setting) → found table (next listed l table) (l ++ saved table (next listed l table) setting ∷ []) ≡ just setting
 unfolding found
 found-next table l setting =
     found-both table (next listed l table) l (saved table (next listed l table) setting ∷ [])
     ∙ rw (above-newest table (next listed l table) l (omega arith), eq-eqb table table refl, eq-eqb (next listed l table) (next listed l table) refl) refl
 
--- ---- versions are 1, 2, 3, ..
+-- ---- numbers
 
-versions-both : (table : ℕ) (l m : List Saved) → versionsOf table (l ++ m) ≡ versionsOf table l ++ versionsOf table m
-unfolding versionsOf
-versions-both table [] m = refl
-versions-both table (e ∷ l) m =
-    elim (tested (eqb (e .table) table)) [
-      | holds t ↦ rw t (ap (λ (k : List ℕ). e .version ∷ k) (versions-both table l m))
-      | fails t ↦ rw t (versions-both table l m)
-    ]
+-- one number more, before those behind it
+one-before : (n to : ℕ) (numbers : List ℕ) → InOrder (n + 1) to numbers → InOrder n to ((n + 1) ∷ numbers)
+one-before n to numbers r =
+    record {
+      count = suc (r .count);
+      reaches = omega (arith, r .reaches);
+      are = sym (tabulate-first (r .count) (λ i. n + (i + 1)) ∙ ap (λ (k : List ℕ). (n + 1) ∷ k) (tabulate-alike (r .count) _ _ (λ i. omega arith) ∙ sym (r .are)));
+    }
 
-abbrev pub Numbered : List Saved → Type 0
-Numbered l = (table : ℕ) → versionsOf table l ≡ tabulate (newest table l) (λ i. i + 1)
-
-one-more : (l : List Saved) (own : ℕ) (setting : Setting) → Numbered l → Numbered (l ++ saved own (next listed l own) setting ∷ [])
-unfolding versionsOf newest tabulate
-one-more l own setting n table =
-    let e = saved own (next listed l own) setting in
-    versions-both table l (e ∷ [])
-    ∙ elim (tested (eqb own table)) [
+numbers-by : {l m : List Saved} {numbers : ℕ → List ℕ} → Left l m numbers → (table to : ℕ) (rest : List ℕ) → InOrder (newest table m) to rest → InOrder (newest table l) to (numbers table ++ rest)
+unfolding newest
+numbers-by (stays e g) table to rest r = rw (g table, ← e) r
+numbers-by {l} (gains own setting e g) table to rest r =
+    elim (tested (eqb own table)) [
       | holds t ↦
           let same = eqb-true own table t in
-          let one : newest table (l ++ e ∷ []) ≡ newest table l + 1 = newest-both table l (e ∷ []) ∙ rw (t, same) (omega arith) in
-          rw (t, one, add-one (newest table l), n table, same) refl
+          let one : newest table (l ++ saved own (next listed l own) setting ∷ []) ≡ newest table l + 1 = newest-both table l (saved own (next listed l own) setting ∷ []) ∙ rw (t, same) (omega arith) in
+          rw (g table, t, same) (one-before (newest table l) to rest (rw (e, one) at r))
       | fails t ↦
-          let none : newest table (l ++ e ∷ []) ≡ newest table l = newest-both table l (e ∷ []) ∙ rw t (omega arith) in
-          rw (t, none, append-nil (versionsOf table l)) (n table)
+          let none : newest table (l ++ saved own (next listed l own) setting ∷ []) ≡ newest table l = newest-both table l (saved own (next listed l own) setting ∷ []) ∙ rw t (omega arith) in
+          rw (g table, t) (rw (e, none) at r)
     ]
+numbers-by (frees keeps e n g) table to rest r = rw (g table, ← n table) r
 
-numbered-by : (l m : List Saved) → Left l m → Numbered l → Numbered m
-numbered-by l m (stays e) n = rw e n
-numbered-by l m (gains table setting e) n = rw e (one-more l table setting n)
+pub all-numbered : (table : ℕ) (l : List Saved) (cs : List Call) → InOrder (newest table l) (newest table (afterAll listed l cs)) (given listed table l cs)
+unfolding afterAll given tabulate
+all-numbered table l [] = record { count = 0; reaches = omega arith; are = refl }
+all-numbered table l (c ∷ cs) =
+    numbers-by (after-left l c) table (newest table (afterAll listed (after listed l c) cs)) (given listed table (after listed l c) cs) (all-numbered table (after listed l c) cs)
 
-pub all-numbered : (l : List Saved) → Numbered l → (cs : List Call) → Numbered (afterAll listed l cs)
-unfolding afterAll
-all-numbered l n [] = n
-all-numbered l n (c ∷ cs) = all-numbered (after listed l c) (numbered-by l (after listed l c) (after-left l c) n) cs
+-- from 0 on they are 1, 2, 3, ..
+pub from-one : {to : ℕ} {numbers : List ℕ} → InOrder 0 to numbers → numbers ≡ tabulate to (λ i. i + 1)
+from-one {to} r =
+    let all : r .count ≡ to = omega (arith, r .reaches) in
+    r .are ∙ tabulate-alike (r .count) _ _ (λ i. omega arith) ∙ ap (λ (n : ℕ). tabulate n (λ i. i + 1)) all

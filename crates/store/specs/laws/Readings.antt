@@ -1,7 +1,7 @@
--- What a version reads as, after any further calls.
+-- What a version reads as, after any further calls that keep it.
 use Prim.Native.Nat.{ℕ, _≤_}
 use mathlib.Core.Path.{_≡_, refl, sym, ap, _∙_}
-use mathlib.Core.Bool.{false, true≢false}
+use mathlib.Core.Bool.{true, false, not, true≢false}
 use mathlib.Core.List.{List, [], _∷_, _++_}
 use native.Mathlib.Omega.{arith}
 use lib.ListN.{length, drop}
@@ -12,12 +12,13 @@ use Rattle.setting.specs.Reader.{textRefusals, settingOf}
 use Rattle.setting.specs.Setting.{settingText}
 use Rattle.setting.specs.Promises.{read-setting}
 use Rattle.setting.specs.declared.Setting.{Setting}
-use Rattle.store.specs.Saved.{Saved, saved, Found, nothing, just, isNothing, found}
+use Rattle.store.specs.Saved.{Saved, saved, newest, Found, nothing, just, isNothing, found, isHeld}
+use Rattle.store.specs.Layout.{savedOf}
 use Rattle.store.specs.Calls.{Reply, Storage, bytes, doneWith, refusedWith, next, putRefusals, saveRefusals, saveReply, again, returnRefusals, returnReply, readRefusals, readReply}
 use Rattle.store.specs.History.{Call, afterAll, listed, Holds}
 use Rattle.store.specs.laws.Calls.{save-done, return-done, read-done}
 use Rattle.store.specs.laws.History.{Agree, save-agree, return-agree, read-same, all-hold}
-use Rattle.store.specs.laws.Listed.{all-grow, found-stays, found-next}
+use Rattle.store.specs.laws.Listed.{all-follow, still-found, still-gone, held-low, found-next}
 
 -- a code of 0 is one of the refusals
 save-accepted : {S : Type 0} (st : Storage S) (s : S) (table : ℕ) (text : List ℕ) → saveReply st s table text .code ≡ 0 → codeOf (saveRefusals st s table text) ≡ 0
@@ -33,25 +34,43 @@ read-by-found : (l m : List Saved) (table v w : ℕ) (buffer : List ℕ) → fou
 unfolding readReply readRefusals
 read-by-found l m table v w buffer e = rw e refl
 
+-- what is held of a store is held of its list
+held-in : {store : List ℕ} {l : List Saved} → Holds store l → (table version : ℕ) → isHeld table version (savedOf store) ≡ isHeld table version l
+held-in h table version = ap (λ (f : Found). not (isNothing f)) (h .versions .same-found table version)
+
 module _ (store : List ℕ) (l : List Saved) (h : Holds store l) (table : ℕ) where
-  -- a version that is held
-  pub kept-same : (version : ℕ) (setting : Setting) (cs : List Call) (buffer : List ℕ) → found table version l ≡ just setting
+  -- a version that was held and is held
+  pub kept-same : (version : ℕ) (cs : List Call) (buffer : List ℕ) → isHeld table version l ≡ true → isHeld table version (savedOf (afterAll bytes store cs)) ≡ true
       → readReply bytes (afterAll bytes store cs) table version buffer ≡ readReply bytes store table version buffer
-  kept-same version setting cs buffer f =
-      read-same (afterAll bytes store cs) (afterAll listed l cs) (all-hold store l h cs) table version buffer
-      ∙ read-by-found (afterAll listed l cs) l table version version buffer (found-stays table version l (afterAll listed l cs) setting (all-grow l cs) f ∙ sym f)
+  kept-same version cs buffer old now =
+      let later = all-hold store l h cs in
+      let still = still-found table version l (afterAll listed l cs) (all-follow l cs) (held-low table version l old) (sym (held-in later table version) ∙ now) in
+      read-same (afterAll bytes store cs) (afterAll listed l cs) later table version buffer
+      ∙ read-by-found (afterAll listed l cs) l table version version buffer still
       ∙ sym (read-same store l h table version buffer)
 
-  -- the next version of a table, after a call that put it in
-  module _ (made : List ℕ) (setting : Setting) (g : Holds made (l ++ saved table (next listed l table) setting ∷ [])) (cs : List Call) (buffer : List ℕ) where
+  -- a version that is gone
+  pub gone-same : (version : ℕ) (cs : List Call) → version ≤ newest table l → found table version l ≡ nothing → found table version (savedOf (afterAll bytes store cs)) ≡ nothing
+  gone-same version cs low f =
+      all-hold store l h cs .versions .same-found table version ∙ still-gone table version l (afterAll listed l cs) (all-follow l cs) low f
+
+  -- the next version of a table, after a call that put it in and calls that keep it
+  module _ (made : List ℕ) (setting : Setting) (g : Holds made (l ++ saved table (next listed l table) setting ∷ [])) (cs : List Call) (buffer : List ℕ)
+      (held : isHeld table (next listed l table) (savedOf (afterAll bytes made cs)) ≡ true) where
+    abbrev first : List Saved
+    first = l ++ saved table (next listed l table) setting ∷ []
+
     abbrev list : List Saved
-    list = afterAll listed (l ++ saved table (next listed l table) setting ∷ []) cs
+    list = afterAll listed first cs
 
     found-made : found table (next listed l table) list ≡ just setting
-    found-made = found-stays table (next listed l table) _ list setting (all-grow _ cs) (found-next table l setting)
+    found-made =
+        let low = held-low table (next listed l table) first (rw (found-next table l setting) refl) in
+        still-found table (next listed l table) first list (all-follow first cs) low (sym (held-in (all-hold made first g cs) table (next listed l table)) ∙ held)
+        ∙ found-next table l setting
 
     made-read : readReply bytes (afterAll bytes made cs) table (next listed l table) buffer ≡ readReply listed list table (next listed l table) buffer
-    made-read = read-same (afterAll bytes made cs) list (all-hold made _ g cs) table (next listed l table) buffer
+    made-read = read-same (afterAll bytes made cs) list (all-hold made first g cs) table (next listed l table) buffer
 
     made-text : length (settingText setting) ≤ length buffer
         → readReply bytes (afterAll bytes made cs) table (next listed l table) buffer ≡ doneWith (length (settingText setting)) (settingText setting ++ drop (length (settingText setting)) buffer)
@@ -65,9 +84,10 @@ module _ (store : List ℕ) (l : List Saved) (h : Holds store l) (table : ℕ) w
 
   -- a save
   pub saved-text : (text : List ℕ) (cs : List Call) (buffer : List ℕ) → saveReply bytes store table text .code ≡ 0 → length text ≤ length buffer
+      → isHeld table (saveReply bytes store table text .value) (savedOf (afterAll bytes (saveReply bytes store table text .state) cs)) ≡ true
       → readReply bytes (afterAll bytes (saveReply bytes store table text .state) cs) table (saveReply bytes store table text .value) buffer ≡ doneWith (length text) (text ++ drop (length text) buffer)
   unfolding saveRefusals textRefusals
-  saved-text text cs buffer z k =
+  saved-text text cs buffer z k held =
       let a = save-agree store l h table text in
       let zl = save-accepted listed l table text (sym (a .same-code) ∙ z) in
       let done = save-done listed l table text zl in
@@ -75,14 +95,15 @@ module _ (store : List ℕ) (l : List Saved) (h : Holds store l) (table : ℕ) w
       let is : text ≡ settingText (settingOf text) = read-setting text (none-code (textRefusals text) (none .0)) .0 in
       let value = a .same-value ∙ ap (λ (r : Reply (List Saved)). r .value) done in
       ap (λ (v : ℕ). readReply bytes (afterAll bytes (saveReply bytes store table text .state) cs) table v buffer) value
-      ∙ made-text (saveReply bytes store table text .state) (settingOf text) (rw done at (a .same-state)) cs buffer (omega (arith, ap length is))
+      ∙ made-text (saveReply bytes store table text .state) (settingOf text) (rw done at (a .same-state)) cs buffer (rw value at held) (omega (arith, ap length is))
       ∙ ap (λ (t : List ℕ). doneWith (length t) (t ++ drop (length t) buffer)) (sym is)
 
   -- a return
   pub returned-same : (version : ℕ) (cs : List Call) (buffer : List ℕ) → returnReply bytes store table version .code ≡ 0
+      → isHeld table (returnReply bytes store table version .value) (savedOf (afterAll bytes (returnReply bytes store table version .state) cs)) ≡ true
       → readReply bytes (afterAll bytes (returnReply bytes store table version .state) cs) table (returnReply bytes store table version .value) buffer ≡ readReply bytes store table version buffer
   unfolding returnRefusals
-  returned-same version cs buffer z = go (found table version l) refl
+  returned-same version cs buffer z held = go (found table version l) refl
     where
       a : Agree (returnReply bytes store table version) (returnReply listed l table version)
       a = return-agree store l h table version
@@ -93,11 +114,14 @@ module _ (store : List ℕ) (l : List Saved) (h : Holds store l) (table : ℕ) w
       done : returnReply listed l table version ≡ doneWith (next listed l table) (again listed l table (found table version l))
       done = return-done listed l table version zl
 
+      value : returnReply bytes store table version .value ≡ next listed l table
+      value = a .same-value ∙ ap (λ (r : Reply (List Saved)). r .value) done
+
       there : isNothing (found table version l) ≡ false
       there = accepted (returnRefusals listed l table version) refl zl .1 .1 .0
 
       go : (f : Found) → found table version l ≡ f → readReply bytes (afterAll bytes (returnReply bytes store table version .state) cs) table (returnReply bytes store table version .value) buffer ≡ readReply bytes store table version buffer
       go nothing q = absurd (true≢false (sym (ap isNothing q) ∙ there))
       go (just setting) q =
-          ap (λ (v : ℕ). readReply bytes (afterAll bytes (returnReply bytes store table version .state) cs) table v buffer) (a .same-value ∙ ap (λ (r : Reply (List Saved)). r .value) done)
-          ∙ made-again (returnReply bytes store table version .state) setting (rw (done, q) at (a .same-state)) cs buffer version q
+          ap (λ (v : ℕ). readReply bytes (afterAll bytes (returnReply bytes store table version .state) cs) table v buffer) value
+          ∙ made-again (returnReply bytes store table version .state) setting (rw (done, q) at (a .same-state)) cs buffer (rw value at held) version q

@@ -63,7 +63,7 @@ pub record Inserted (e : Saved) (l m : List Saved) : Type 0 where
   pub old : l ≡ before ++ behind
   pub new : m ≡ before ++ e ∷ behind
 
-or-nothing : (f : Found) → orElse f nothing ≡ f
+pub or-nothing : (f : Found) → orElse f nothing ≡ f
 or-nothing nothing = refl
 or-nothing (just s) = refl
 

@@ -1,0 +1,126 @@
+-- A store with only the versions that a test keeps: its places, its shape, what it holds, and how a loop over the places makes it.
+use Prim.Native.Nat.{ℕ, zero, suc, _+_, _≤_, _<_}
+use mathlib.Core.Path.{_≡_, refl, sym, ap, _∙_}
+use mathlib.Core.Bool.{Bool, true, false, not, _&&_, cond}
+use mathlib.Core.List.{List, [], _∷_, _++_, append-nil}
+use native.Mathlib.Numerals.{add-one}
+use native.Mathlib.Omega.{arith}
+use lib.Dec.{eqb, ltb}
+use lib.ListN.{length, replicate, length-append}
+use borrow.Author.Tests.{lt-ltb, le-ltb, ltb-true, ltb-false, eqb-true, eqb-false}
+use Rattle.basics.specs.Parts.{withPart}
+use Rattle.basics.specs.laws.Logic.{tested, holds, fails}
+use Rattle.store.specs.Saved.{Saved, only}
+use Rattle.store.specs.Layout.{number, versionIn, tableIn, placeOk, place, storeOk, savedAt, savedBelow, isFreed, freePart, onlyBelow, withOnly}
+use Rattle.store.specs.laws.Kept.{keptBy, only-both}
+use Rattle.store.specs.laws.Layout.{at-place, elsewhere, before-same, with-ok}
+
+-- ---- a free place
+
+pub free-ok : placeOk freePart ≡ true
+unfolding placeOk number
+free-ok = refl
+
+pub free-empty : savedAt freePart ≡ []
+unfolding number
+free-empty = refl
+
+-- what a place holds that a test keeps, and that it does not
+kept-at : (keeps : ℕ → ℕ → Bool) (p : List ℕ) → only keeps (savedAt p) ≡ cond (isFreed keeps p) [] (savedAt p)
+unfolding only
+kept-at keeps p =
+    elim (tested (eqb (versionIn p) 0)) [
+      | holds t ↦ rw t refl
+      | fails t ↦ rw t (elim (tested (keeps (tableIn p) (versionIn p))) [ holds u ↦ rw u refl | fails u ↦ rw u refl ])
+    ]
+
+gone-at : (keeps : ℕ → ℕ → Bool) (p : List ℕ) → length (only (λ table version. not (keeps table version)) (savedAt p)) ≡ cond (isFreed keeps p) 1 0
+unfolding only
+gone-at keeps p =
+    elim (tested (eqb (versionIn p) 0)) [
+      | holds t ↦ rw t refl
+      | fails t ↦ rw t (elim (tested (keeps (tableIn p) (versionIn p))) [ holds u ↦ rw u refl | fails u ↦ rw u refl ])
+    ]
+
+-- ---- the first n places
+
+module _ (keeps : ℕ → ℕ → Bool) (store : List ℕ) where
+  abbrev left : ℕ → List ℕ
+  left n = onlyBelow n keeps store
+
+  abbrev gone : ℕ → Bool
+  gone i = isFreed keeps (place i store)
+
+  -- a place that no turn has come to
+  pub not-yet : (n i : ℕ) → n ≤ i → i < 256 → place i (left n) ≡ place i store
+  unfolding onlyBelow
+  not-yet zero i h k = refl
+  not-yet (suc n) i h k =
+      elim (tested (gone n)) [
+        | holds t ↦ rw t (elsewhere freePart refl (left n) n (omega arith) i k (λ q. omega arith) ∙ not-yet n i (omega arith) k)
+        | fails t ↦ rw t (not-yet n i (omega arith) k)
+      ]
+
+  -- and one that it has come to
+  pub place-left : (n i : ℕ) → i < n → n ≤ 256 → place i (left n) ≡ cond (gone i) freePart (place i store)
+  unfolding onlyBelow
+  place-left zero i h k = absurd (omega arith)
+  place-left (suc n) i h k =
+      elim (tested (eqb i n)) [
+        | holds q ↦ rw (eqb-true i n q) (elim (tested (gone n)) [
+          | holds t ↦ rw t (at-place freePart refl (left n) n (omega arith))
+          | fails t ↦ rw t (not-yet n n (omega arith) (omega arith))
+        ])
+        | fails q ↦
+            let d = eqb-false i n q in
+            elim (tested (gone n)) [
+              | holds t ↦ rw t (elsewhere freePart refl (left n) n (omega arith) i (omega arith) d ∙ place-left n i (omega (arith, d)) (omega arith))
+              | fails t ↦ rw t (place-left n i (omega (arith, d)) (omega arith))
+            ]
+      ]
+
+  pub left-ok : (n : ℕ) → n ≤ 256 → storeOk store ≡ true → storeOk (left n) ≡ true
+  unfolding onlyBelow
+  left-ok zero h ok = ok
+  left-ok (suc n) h ok =
+      elim (tested (gone n)) [
+        | holds t ↦ rw t (with-ok freePart refl (left n) n (omega arith) free-ok (left-ok n (omega arith) ok))
+        | fails t ↦ rw t (left-ok n (omega arith) ok)
+      ]
+
+  -- it holds what the test keeps
+  pub left-holds : (n : ℕ) → n ≤ 256 → savedBelow n (left n) ≡ only keeps (savedBelow n store)
+  unfolding onlyBelow savedBelow only
+  left-holds zero h = refl
+  left-holds (suc n) h =
+      elim (tested (gone n)) [
+        | holds t ↦
+            rw (t, before-same freePart refl (left n) n (omega arith) n (omega arith), left-holds n (omega arith), at-place freePart refl (left n) n (omega arith), free-empty)
+            (ap (λ (k : List Saved). only keeps (savedBelow n store) ++ k) (sym (kept-at keeps (place n store) ∙ rw t refl)) ∙ sym (only-both keeps (savedBelow n store) (savedAt (place n store))))
+        | fails t ↦
+            rw (t, left-holds n (omega arith), not-yet n n (omega arith) (omega arith))
+            (ap (λ (k : List Saved). only keeps (savedBelow n store) ++ k) (sym (kept-at keeps (place n store) ∙ rw t refl)) ∙ sym (only-both keeps (savedBelow n store) (savedAt (place n store))))
+      ]
+
+  -- ---- turn by turn
+
+  abbrev pub goneBelow : ℕ → ℕ
+  goneBelow n = length (only (λ table version. not (keeps table version)) (savedBelow n store))
+
+  pub turn-none : (store ≡ left 0) × (0 ≡ goneBelow 0)
+  unfolding onlyBelow savedBelow only
+  turn-none = (refl, refl)
+
+  module _ (i freed : ℕ) (now : List ℕ) (b : Bool) (is : b ≡ gone i) (e : now ≡ left i) (f : freed ≡ goneBelow i) where
+    gone-more : goneBelow (i + 1) ≡ freed + cond b 1 0
+    unfolding savedBelow
+    gone-more =
+        rw (add-one i, only-both (λ table version. not (keeps table version)) (savedBelow i store) (savedAt (place i store)), length-append, gone-at keeps (place i store), is, f) refl
+
+    pub turn-frees : b ≡ true → (withPart 256 40 i freePart now ≡ left (i + 1)) × (freed + 1 ≡ goneBelow (i + 1))
+    unfolding onlyBelow
+    turn-frees t = (rw (add-one i, ← is, t, e) refl, sym (gone-more ∙ rw t refl))
+
+    pub turn-keeps : b ≡ false → (now ≡ left (i + 1)) × (freed ≡ goneBelow (i + 1))
+    unfolding onlyBelow
+    turn-keeps t = (rw (add-one i, ← is, t) e, sym (gone-more ∙ rw t (omega arith)))
