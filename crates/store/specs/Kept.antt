@@ -17,9 +17,12 @@ tableAt list i = getD list (2 * i) 0
 abbrev pub versionAt : List ℕ → ℕ → ℕ
 versionAt list i = getD list (2 * i + 1) 0
 
--- whether a version is named; and whether all that are named are held
+-- whether a version is named, by pair i and at all; and whether all that are named are held
+abbrev pub isPair : List ℕ → ℕ → ℕ → ℕ → Bool
+isPair list table version i = eqb (tableAt list i) table && eqb (versionAt list i) version
+
 unfoldable pub isListed : List ℕ → ℕ → ℕ → Bool
-isListed list table version = anyBelow (pairs list) (λ i. eqb (tableAt list i) table && eqb (versionAt list i) version)
+isListed list table version = anyBelow (pairs list) (isPair list table version)
 
 unfoldable pub allHeld : List ℕ → List Saved → Bool
 allHeld list l = allBelow (pairs list) (λ i. isHeld (tableAt list i) (versionAt list i) l)

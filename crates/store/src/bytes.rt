@@ -2,7 +2,7 @@
 ghost use mathlib.Core.Path.{_≡_};
 ghost use Prim.Native.Nat.{_%_, _≤_, _<_};
 ghost use lib.Dec.{eqb};
-ghost use lib.ListN.{length, take};
+ghost use lib.ListN.{length, take, replicate};
 ghost use Rattle.basics.specs.First.{all};
 ghost use Rattle.store.specs.Layout.{number, digits};
 
@@ -68,4 +68,15 @@ pub fn is_zero(part: &[u8]) -> bool
         i += 1;
     }
     zero
+}
+
+// Writes 0 to every byte.
+pub fn clear(part: &mut [u8])
+    ensures { λ _. ⌜ now (part .exit) ≡ replicate (length (now (part .entry))) 0 ⌝ }
+{
+    let mut i: usize = 0;
+    while i < part.len() {
+        part[i] = 0;
+        i += 1;
+    }
 }

@@ -3,7 +3,7 @@ use crate::places::PLACES;
 use crate::places::SIZE;
 use text::proved_callers::write_text;
 ghost use mathlib.Core.Path.{_≡_};
-ghost use Rattle.store.specs.Calls.{answered, bytes, freshReply, saveReply, returnReply, readReply};
+ghost use Rattle.store.specs.Calls.{answered, bytes, freshReply, saveReply, returnReply, readReply, keepReply};
 
 pub struct Answer {
     pub code: u64,
@@ -35,11 +35,7 @@ pub fn fresh(store: &mut [u8]) -> Answer
     if store.len() != SIZE {
         return refused(4);
     }
-    let mut i: usize = 0;
-    while i < store.len() {
-        store[i] = 0;
-        i += 1;
-    }
+    crate::bytes::clear(store);
     done(0)
 }
 
@@ -94,4 +90,16 @@ pub fn read(store: &[u8], table: u64, version: u64, buffer: &mut [u8]) -> Answer
     }
     write_text(&text[..n], buffer, 0);
     done(n as u64)
+}
+
+// Makes room: frees every version but the newest of each table and those that a list names, table then version.
+pub fn keep(store: &mut [u8], list: &[u64]) -> Answer
+    ensures { λ r. ⌜ answered r (now (store .exit)) ≡ keepReply bytes (now (store .entry)) (now (list .entry)) ⌝ }
+{
+    let code = crate::kept::keep_code(&store[..], list);
+    if code == 0 {
+        done(crate::kept::free_others(store, list))
+    } else {
+        refused(code)
+    }
 }

@@ -8,13 +8,13 @@ ghost use lib.ListN.{length};
 ghost use Rattle.basics.specs.Parts.{withPart};
 ghost use Rattle.text.specs.Write.{Written};
 ghost use Rattle.store.specs.Saved.{saved, newest};
-ghost use Rattle.store.specs.Layout.{storeSize, place, settingIn, placeOf, storeOk, savedAt, savedOf, freePlace};
+ghost use Rattle.store.specs.Layout.{storeSize, place, settingIn, placeOf, storeOk, savedAt, savedOf, freePlace, freePart};
 ghost use Rattle.store.specs.laws.Layout.{heldPlace};
 
 // The bytes of a store and of a place, and the number of places.
 pub const SIZE: usize = 10240;
 
-const WIDTH: usize = 40;
+pub const WIDTH: usize = 40;
 
 pub const PLACES: usize = 256;
 
@@ -36,7 +36,7 @@ pub fn is_sound(store: &[u8]) -> bool
 }
 
 // The greater of a number and the version in a place, where that is of the table.
-fn greater(part: &[u8], table: u64, than: u64) -> u64
+pub fn greater(part: &[u8], table: u64, than: u64) -> u64
     requires { ⌜ length (now part) ≡ 40 ⌝ }
     ensures { λ r. ⌜ r ≡ max than (newest table (savedAt (now (part .entry)))) ⌝ }
 {
@@ -140,4 +140,14 @@ pub fn put(store: &mut [u8], i: usize, table: u8, version: u64, setting: Setting
     let chip = setting.chip;
     let values = setting.values;
     put_parts(store, i, table, version, chip, setting.addr, values);
+}
+
+// Makes place i free, and changes no other byte.
+pub fn free(store: &mut [u8], i: usize)
+    requires { ⌜ (length (now store) ≡ storeSize) × (i < 256) ⌝ }
+    ensures { λ _. ⌜ now (store .exit) ≡ withPart 256 40 i freePart (now (store .entry)) ⌝ }
+{
+    let a = WIDTH * i;
+    let e = a + WIDTH;
+    crate::bytes::clear(&mut store[a..e]);
 }

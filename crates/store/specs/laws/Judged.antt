@@ -18,12 +18,13 @@ use Rattle.setting.specs.Setting.{settingText}
 use Rattle.setting.specs.declared.Setting.{Setting}
 use Rattle.text.specs.Write.{Written}
 use Rattle.text.specs.laws.Write.{written-first}
-use Rattle.store.specs.Saved.{saved, newest, Found, nothing, just, isNothing, found}
-use Rattle.store.specs.Layout.{storeSize, settingIn, placeOf, place, storeOk, savedOf, freePlace}
-use Rattle.store.specs.Calls.{bytes, refusedWith, doneWith, next, putRefusals, saveRefusals, saveReply, returnRefusals, returnReply, readReply}
-use Rattle.store.specs.laws.Layout.{ok-long, heldPlace, found-place, found-held, full-is}
+use Rattle.store.specs.Saved.{saved, newest, Found, nothing, just, isNothing, found, only}
+use Rattle.store.specs.Kept.{isKept}
+use Rattle.store.specs.Layout.{storeSize, settingIn, placeOf, place, storeOk, savedOf, freePlace, withOnly}
+use Rattle.store.specs.Calls.{bytes, refusedWith, doneWith, next, putRefusals, saveRefusals, saveReply, returnRefusals, returnReply, readReply, keepRefusals, keepReply}
+use Rattle.store.specs.laws.Layout.{ok-long, heldPlace, found-place, missing-at, found-held, full-is}
 use Rattle.store.specs.declared.room.Room.{Room}
-use Rattle.store.specs.laws.Calls.{save-done, save-refused, return-done, return-refused, read-done}
+use Rattle.store.specs.laws.Calls.{save-done, save-refused, return-done, return-refused, read-done, keep-done, keep-refused}
 
 -- ---- one version more
 
@@ -154,12 +155,7 @@ module _ (store : List ℕ) (table version from : ℕ) (room : Room) (code : ℕ
   from-is ok = held (is .0 ∙ ok)
 
   missing-is : storeOk store ≡ true → leb 256 from ≡ isNothing what
-  missing-is ok =
-      rw (found-place table version store 256, from-is ok)
-      (elim (tested (ltb (heldPlace table version store) 256)) [
-        | holds t ↦ rw (t, lt-leb 256 (heldPlace table version store) (ltb-true (heldPlace table version store) 256 t)) refl
-        | fails t ↦ rw (t, le-leb 256 (heldPlace table version store) (ltb-false (heldPlace table version store) 256 t)) refl
-      ])
+  missing-is ok = rw (from-is ok) (missing-at table version store)
 
   return-code : code ≡ codeOf (returnRefusals bytes store table version)
   unfolding returnRefusals codeOf
@@ -193,3 +189,18 @@ module _ (store : List ℕ) (table version from : ℕ) (room : Room) (code : ℕ
     return-is after setting q e =
         let c = return-clear in
         rw (e, q, c .next-is, c .free-is) (sym (return-done bytes store table version (sym return-code ∙ z) ∙ rw what-is refl))
+
+-- ---- making room, likewise
+
+module _ (store list : List ℕ) (code : ℕ) (is : code ≡ codeOf (keepRefusals bytes store list)) where
+  pub keep-turned : (code ≡ 0 → ⊥) → refusedWith store code ≡ keepReply bytes store list
+  keep-turned n = sym (keep-refused bytes store list (λ z. n (is ∙ z)) ∙ ap (refusedWith store) (sym is))
+
+  module _ (z : code ≡ 0) where
+    pub keep-ready : storeOk store ≡ true
+    unfolding keepRefusals
+    keep-ready = not-false (storeOk store) (accepted (keepRefusals bytes store list) refl (sym is ∙ z) .0)
+
+    pub keep-is : (after : List ℕ) (value : ℕ) → after ≡ withOnly (isKept list (savedOf store)) store → value ≡ length (only (λ table version. not (isKept list (savedOf store) table version)) (savedOf store))
+        → doneWith value after ≡ keepReply bytes store list
+    keep-is after value e q = rw (e, q) (sym (keep-done bytes store list (sym is ∙ z)))

@@ -25,7 +25,7 @@ use Rattle.setting.specs.Setting.{settingOk}
 use Rattle.setting.specs.declared.Setting.{Setting}
 use Rattle.text.specs.Write.{Written}
 use Rattle.text.specs.laws.Write.{then, written-all}
-use Rattle.store.specs.Saved.{Saved, newest, Found, nothing, just, found}
+use Rattle.store.specs.Saved.{Saved, newest, Found, nothing, just, isNothing, found}
 use Rattle.store.specs.Layout.{storeSize, digits, kindOf, chipOf, versionIn, tableIn, settingIn, placeOf, heldOk, placeOk, place, storeOk, savedAt, savedBelow, savedOf}
 use Rattle.store.specs.laws.Bytes.{number-digits, digits-long}
 use Rattle.store.specs.laws.Saved.{orElse, found-both, newest-both, never, just-inj, Inserted}
@@ -182,6 +182,14 @@ module _ (table version : ℕ) (store : List ℕ) where
               | fails u ↦ rw (u, le-ltb (suc n) (suc n) (omega arith)) refl
             ])
       ]
+
+  pub missing-at : leb 256 (heldPlace table version store) ≡ isNothing (found table version (savedOf store))
+  missing-at =
+      rw (found-place 256)
+      (elim (tested (ltb (heldPlace table version store) 256)) [
+        | holds t ↦ rw (t, lt-leb 256 (heldPlace table version store) (ltb-true (heldPlace table version store) 256 t)) refl
+        | fails t ↦ rw (t, le-leb 256 (heldPlace table version store) (ltb-false (heldPlace table version store) 256 t)) refl
+      ])
 
 -- a place adds the version that it holds of the table
 newest-at : (table : ℕ) (p : List ℕ) → newest table (savedAt p) ≡ cond (eqb (tableIn p) table) (versionIn p) 0
@@ -342,6 +350,12 @@ module _ (store : List ℕ) (ok : storeOk store ≡ true) where
         setting-ok = and-right (eqb (getD p 11 0) 0) _ good4;
         setting-long = rw (length-drop, part-long 40 i store) refl;
       }
+
+  -- the table of a place with a version
+  pub held-few : (i : ℕ) → i < 256 → (versionIn (place i store) ≡ 0 → ⊥) → tableIn (place i store) < 64
+  held-few i h n =
+      let p = place i store in
+      held-at (tableIn p) (versionIn p) i h (rw (ne-eqb (versionIn p) 0 n, eq-eqb (tableIn p) (tableIn p) refl, eq-eqb (versionIn p) (versionIn p) refl) refl) .table-few
 
   pub found-held : (table version : ℕ) (setting : Setting) → found table version (savedOf store) ≡ just setting → IsHeld table setting
   found-held table version setting f =

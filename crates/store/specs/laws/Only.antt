@@ -1,19 +1,21 @@
 -- A store with only the versions that a test keeps: its places, its shape, what it holds, and how a loop over the places makes it.
-use Prim.Native.Nat.{ℕ, zero, suc, _+_, _≤_, _<_}
+use Prim.Native.Nat.{ℕ, zero, suc, max, _+_, _≤_, _<_}
 use mathlib.Core.Path.{_≡_, refl, sym, ap, _∙_}
-use mathlib.Core.Bool.{Bool, true, false, not, _&&_, cond}
+use mathlib.Core.Bool.{Bool, true, false, not, _&&_, _||_, cond}
 use mathlib.Core.List.{List, [], _∷_, _++_, append-nil}
 use native.Mathlib.Numerals.{add-one}
 use native.Mathlib.Omega.{arith}
-use lib.Dec.{eqb, ltb}
-use lib.ListN.{length, replicate, length-append}
-use borrow.Author.Tests.{lt-ltb, le-ltb, ltb-true, ltb-false, eqb-true, eqb-false}
+use lib.Dec.{eqb}
+use lib.ListN.{length, getD, set, replicate, length-append}
+use lib.Seq.{getD-set-same, getD-set-other}
+use borrow.Author.Tests.{eq-eqb, ne-eqb, eqb-true, eqb-false}
 use Rattle.basics.specs.Parts.{withPart}
 use Rattle.basics.specs.laws.Logic.{tested, holds, fails}
-use Rattle.store.specs.Saved.{Saved, only}
-use Rattle.store.specs.Layout.{number, versionIn, tableIn, placeOk, place, storeOk, savedAt, savedBelow, isFreed, freePart, onlyBelow, withOnly}
+use Rattle.store.specs.Saved.{Saved, newest, only}
+use Rattle.store.specs.Kept.{isListed, isKept}
+use Rattle.store.specs.Layout.{number, versionIn, tableIn, placeOk, place, storeOk, savedAt, savedBelow, savedOf, isFreed, freePart, onlyBelow, withOnly}
 use Rattle.store.specs.laws.Kept.{keptBy, only-both}
-use Rattle.store.specs.laws.Layout.{at-place, elsewhere, before-same, with-ok}
+use Rattle.store.specs.laws.Layout.{newest-other, held-few, at-place, elsewhere, before-same, with-ok}
 
 -- ---- a free place
 
@@ -124,3 +126,53 @@ module _ (keeps : ℕ → ℕ → Bool) (store : List ℕ) where
     pub turn-keeps : b ≡ false → (now ≡ left (i + 1)) × (freed ≡ goneBelow (i + 1))
     unfolding onlyBelow
     turn-keeps t = (rw (add-one i, ← is, t) e, sym (gone-more ∙ rw t (omega arith)))
+
+-- ---- the greatest version of each table, in a row of 64
+
+abbrev pub GreatestOf : List ℕ → List ℕ → Type 0
+GreatestOf store greatest = (table : ℕ) → table < 64 → getD greatest table 0 ≡ newest table (savedOf store)
+
+-- what is kept by such a row
+abbrev pub keptOf : List ℕ → List ℕ → ℕ → ℕ → Bool
+keptOf list greatest table version = eqb version (getD greatest table 0) || isListed list table version
+
+-- with the version in a place taken in
+module _ (greatest p : List ℕ) where
+  pub raised-own : (at v : ℕ) → at < length greatest → at ≡ tableIn p → v ≡ max (getD greatest at 0) (newest at (savedAt p)) → (table : ℕ) → getD (set greatest at v) table 0 ≡ max (getD greatest table 0) (newest table (savedAt p))
+  raised-own at v h own e table =
+      elim (tested (eqb table at)) [
+        | holds t ↦ rw (eqb-true table at t, getD-set-same greatest at v 0 h) e
+        | fails t ↦
+            let d = eqb-false table at t in
+            getD-set-other greatest at table v 0 d ∙ omega (arith, newest-other table p (λ q. d (sym (own ∙ q))))
+      ]
+
+  pub raised-none : (limit : ℕ) → limit ≤ tableIn p → (table : ℕ) → table < limit → getD greatest table 0 ≡ max (getD greatest table 0) (newest table (savedAt p))
+  raised-none limit h table k = omega (arith, newest-other table p (λ q. omega arith))
+
+-- whether a place is freed, by such a row
+module _ (list greatest p : List ℕ) (version table : ℕ) (v : version ≡ versionIn p) (t : table ≡ tableIn p) where
+  pub freed-empty : version ≡ 0 → false ≡ isFreed (keptOf list greatest) p
+  freed-empty z = rw (← v, z) refl
+
+  pub freed-greatest : (version ≡ 0 → ⊥) → getD greatest table 0 ≡ version → false ≡ isFreed (keptOf list greatest) p
+  freed-greatest n e = rw (← v, ← t, ne-eqb version 0 n, eq-eqb version (getD greatest table 0) (sym e)) refl
+
+  pub freed-other : (b : Bool) → (version ≡ 0 → ⊥) → (getD greatest table 0 ≡ version → ⊥) → b ≡ isListed list table version → not b ≡ isFreed (keptOf list greatest) p
+  freed-other b n d e = rw (← v, ← t, ne-eqb version 0 n, ne-eqb version (getD greatest table 0) (λ q. d (sym q)), e) refl
+
+-- in a store of the right shape that is whether it is kept
+freed-same : (list greatest store : List ℕ) → storeOk store ≡ true → GreatestOf store greatest → (i : ℕ) → i < 256 → isFreed (keptOf list greatest) (place i store) ≡ isFreed (isKept list (savedOf store)) (place i store)
+freed-same list greatest store ok g i h =
+    elim (tested (eqb (versionIn (place i store)) 0)) [
+      | holds t ↦ rw t refl
+      | fails t ↦ rw (g (tableIn (place i store)) (held-few store ok i h (eqb-false (versionIn (place i store)) 0 t))) refl
+    ]
+
+-- and so it is of the place that a turn comes to
+pub seen : (list greatest store now part : List ℕ) (i : ℕ) (b : Bool) → storeOk store ≡ true → GreatestOf store greatest → i < 256 → now ≡ onlyBelow i (isKept list (savedOf store)) store → part ≡ place i now
+    → b ≡ isFreed (keptOf list greatest) part → b ≡ isFreed (isKept list (savedOf store)) (place i store)
+seen list greatest store now part i b ok g h e q is =
+    is
+    ∙ ap (isFreed (keptOf list greatest)) (q ∙ ap (place i) e ∙ not-yet (isKept list (savedOf store)) store i i (omega arith) h)
+    ∙ freed-same list greatest store ok g i h

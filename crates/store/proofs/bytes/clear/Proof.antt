@@ -1,0 +1,37 @@
+-- `clear`: the first i bytes are 0.
+use Prim.Native.Nat.{_-_, _≤_}
+use mathlib.Core.Path.{_≡_}
+use mathlib.Core.List.{_++_}
+use native.Mathlib.Omega.{arith}
+use denote.Ref.{now}
+use lib.ListN.{length, drop, replicate, length-set}
+use Rattle.store.specs.laws.Bytes.{zeros-put, zeros-all}
+use borrow.Author.Needs.{needs}
+use Rattle.store.proofs.bytes.clear.Statement.{statement}
+use Rattle.store.proofs.bytes.clear.Tie as tie
+
+abbrev Inv-loop : tie.InvT-loop
+Inv-loop part₀ i₀ part i = (i ≤ length part₀) × (part ≡ replicate i 0 ++ drop i part₀) × (length part ≡ length part₀)
+
+abbrev μ-loop : tie.MeasureT-loop
+μ-loop part₀ i₀ part i = length part₀ - i
+
+loop-again : tie.Need-loop-again Inv-loop μ-loop
+loop-again c =
+    let l = c .before in
+    let s = now (l .before .args .part) in
+    (search needs, zeros-put s (l .loop .part) (l .loop .i) (omega (arith, c .loop-test .taken, l .loop .inv .2)) (l .loop .inv .1), simp length-set (l .loop .inv .2))
+
+same-length : tie.Need-same-length Inv-loop μ-loop
+same-length c = c .before .loop .inv .2
+
+returns : tie.Need-returns Inv-loop μ-loop
+returns c =
+    let l = c .before in
+    let s = now (l .before .args .part) in
+    zeros-all s (l .loop .part) (l .loop .i) (l .loop .inv .0) (omega (arith, c .loop-test .left, l .loop .inv .2)) (l .loop .inv .1)
+
+pub clear-spec : {M : Type 1} → statement M
+clear-spec =
+    tie.close
+    (tie.spec Inv-loop μ-loop (λ c. search needs) (λ c. search needs) (λ c. search needs) (λ c. search needs) loop-again same-length returns)
