@@ -4,7 +4,7 @@ ghost use lib.ListN.{length};
 ghost use Rattle.text.specs.Lines.{linesOf};
 ghost use Rattle.text.specs.Run.{RunsLog};
 ghost use Rattle.store.specs.Layout.{storeSize};
-ghost use Rattle.store.specs.Calls.{replied, bytes, freshReply, saveReply, returnReply, readReply};
+ghost use Rattle.store.specs.Calls.{replied, bytes, freshReply, saveReply, returnReply, readReply, keepReply};
 ghost use Rattle.script.specs.Totals.{totalsCode, totalsAfter};
 ghost use Rattle.script.specs.Twin.{freshState, freshReplay, twin};
 
@@ -91,6 +91,15 @@ pub extern "C" fn lamptwin_store_read(
     ensures { λ r. ⌜ replied r (now (value .exit)) (now (buffer .exit)) ≡ readReply bytes (now (store .entry)) table version (now (buffer .entry)) ⌝ }
 {
     let a = store::read(store, table, version, buffer);
+    *value = a.value;
+    a.code
+}
+
+#[no_mangle]
+pub extern "C" fn lamptwin_store_keep(store: &mut [u8], list: &[u64], value: &mut u64) -> u64
+    ensures { λ r. ⌜ replied r (now (value .exit)) (now (store .exit)) ≡ keepReply bytes (now (store .entry)) (now (list .entry)) ⌝ }
+{
+    let a = store::keep(store, list);
     *value = a.value;
     a.code
 }
