@@ -1,5 +1,6 @@
-/* Saves the setting on standard input in a fresh store, under the table that the argument names, and reads it back to standard
- * output. Each call's code and value go to standard error; the status is 0 where both are done. */
+/* Saves the setting on standard input in a fresh store, under the table that the argument names, goes back to it, keeps the newest
+ * version alone, and reads that one to standard output. Each call's code and value go to standard error; the status is 0 where all
+ * are done. */
 #include <errno.h>
 #include <inttypes.h>
 #include <stdint.h>
@@ -50,10 +51,18 @@ int main(int count, char **arguments)
     uint64_t version;
     uint64_t code = lamptwin_store_save(store, sizeof store, table, setting, length, &version);
     expect_done("save", code, version);
+    uint64_t newest;
+    code = lamptwin_store_return(store, sizeof store, table, version, &newest);
+    expect_done("return", code, newest);
+
+    /* A list that names no version; its pointer is not null all the same. */
+    uint64_t freed;
+    code = lamptwin_store_keep(store, sizeof store, &table, 0, &freed);
+    expect_done("keep", code, freed);
 
     uint8_t buffer[LAMPTWIN_SETTING_ROOM];
     uint64_t written;
-    code = lamptwin_store_read(store, sizeof store, table, version, buffer, sizeof buffer, &written);
+    code = lamptwin_store_read(store, sizeof store, table, newest, buffer, sizeof buffer, &written);
     expect_done("read", code, written);
     if (fwrite(buffer, 1, (size_t)written, stdout) != written || fflush(stdout) != 0)
         fail("output");

@@ -66,10 +66,10 @@ size_t lamptwin_store_size(void);
  *    2  save: its second line has an address that the kind cannot have (a driver's above 127, 3 or 112; a blinker's above 7),
  *       whatever follows it
  *    4  the store has not LAMPTWIN_STORE_SIZE bytes or is of wrong shape; save: the setting is of wrong shape, a register above 255
- *       included
+ *       included; keep: the list has an odd length
  *    6  save, return: the table's next version would have a number above 2^48
  *    8  read: the buffer is too short for the version's setting
- *   11  the table is above 63; return, read: it has no such version
+ *   11  the table is above 63; return, read: it has no such version; keep: a version listed is not held, for either reason
  *   12  save, return: the store holds 256 versions
  * A refused call writes nothing but 0 to its value. A value is one number and not null, and every call that takes one writes it. A
  * call's areas, its value among them, must not overlap. */
@@ -92,6 +92,14 @@ uint64_t lamptwin_store_return(uint8_t *store, size_t store_length, uint64_t tab
  * bytes are enough for any. Gives 0, 4, 8 or 11. */
 uint64_t lamptwin_store_read(const uint8_t *store, size_t store_length, uint64_t table, uint64_t version, uint8_t *buffer,
                              size_t buffer_length, uint64_t *value);
+
+/* Makes room: keeps of each table the newest version, whose number is the greatest, and the versions listed, and frees the rest.
+ * The value is how many were freed. The list has two numbers for each version, the table, then the version's own; list_length
+ * counts numbers and may be 0. The newest may be listed too, and any version more than once. Kept versions stay where they are,
+ * with every byte; each byte of a freed place is 0, as in a fresh store, and the place takes a new version. A freed version is no
+ * longer read or gone back to, and its number is not given again, since the newest is kept. Of a version that others wrote to two
+ * places both are kept, or both freed and counted. No other call but fresh takes a version out of a store. Gives 0, 4 or 11. */
+uint64_t lamptwin_store_keep(uint8_t *store, size_t store_length, const uint64_t *list, size_t list_length, uint64_t *value);
 
 #ifdef __cplusplus
 }

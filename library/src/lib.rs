@@ -18,12 +18,12 @@
 //! order, r0 to r27 of a PCA9635, r0 to r17 of a PCA9634, r1 to r6 of a PCA9531
 //! or PCA9551, each line with its line feed and each number a decimal without
 //! leading zeros. A store is `STORE_SIZE` bytes of the caller's that keep up to
-//! 256 versions of settings, numbered from 1 on for each of the tables 0 to 63;
-//! docs/STORE.md has its bytes.
+//! 256 versions of settings, numbered from 1 on for each of the tables 0 to 63,
+//! and `store_keep` makes room for more; docs/STORE.md has its bytes.
 
 mod store;
 
-pub use store::{store_fresh, store_read, store_return, store_save, store_size};
+pub use store::{store_fresh, store_keep, store_read, store_return, store_save, store_size};
 pub use store::{Refused, SETTING_ROOM, STORE_SIZE};
 
 use std::fmt;

@@ -8,6 +8,9 @@ pub const STORE_SIZE: usize = 10240;
 /// No setting's text is longer, its line feeds included.
 pub const SETTING_ROOM: usize = 233;
 
+/// The versions that a store has room for.
+const PLACES: u64 = 256;
+
 /// Versions are numbered from 1 to this.
 const LAST_VERSION: u64 = 1 << 48;
 
@@ -18,6 +21,7 @@ const WRONG_SHAPE: u64 = 4;
 const SAVE_REFUSALS: &[u64] = &[1, 2, 4, 6, 11, 12];
 const RETURN_REFUSALS: &[u64] = &[4, 6, 11, 12];
 const READ_REFUSALS: &[u64] = &[4, 8, 11];
+const KEEP_REFUSALS: &[u64] = &[4, 11];
 
 mod declared {
     // A slice of the library is a pointer and a length.
@@ -48,6 +52,13 @@ mod declared {
             buffer_length: usize,
             value: *mut u64,
         ) -> u64;
+        pub fn lamptwin_store_keep(
+            store: *mut u8,
+            store_length: usize,
+            list: *const u64,
+            list_length: usize,
+            value: *mut u64,
+        ) -> u64;
     }
 }
 
@@ -63,7 +74,7 @@ impl fmt::Display for Refused {
         let reason = match self.code {
             1 => "the setting names an unknown kind of chip",
             2 => "the setting has an address that its chip cannot have",
-            4 => "the setting or the store has a wrong shape or size",
+            4 => "the setting, the list or the store has a wrong shape or size",
             6 => "the version's number would be above 2^48",
             8 => "the buffer is too short for the setting",
             11 => "there is no such table or version",
@@ -166,6 +177,28 @@ pub fn store_read(
     let room = buffer.len().min(SETTING_ROOM);
     assert!(length <= room as u64, "a setting fits its buffer");
     Ok(length as usize)
+}
+
+/// Makes room: keeps of each table the newest version and the versions listed,
+/// each as its table, then its number, frees the rest and gives how many that
+/// were. What is kept stays where it is, with its number. Refused with 4 or 11.
+pub fn store_keep(store: &mut [u8], list: &[u64]) -> Result<u64, Refused> {
+    let mut value = u64::MAX;
+    // SAFETY: the pointers are valid for their lengths and never null, two
+    // mutable borrows and a shared one cannot overlap, and the call writes
+    // within the store and the value alone.
+    let code = unsafe {
+        declared::lamptwin_store_keep(
+            store.as_mut_ptr(),
+            store.len(),
+            list.as_ptr(),
+            list.len(),
+            &mut value,
+        )
+    };
+    let freed = answer(code, value, KEEP_REFUSALS)?;
+    assert!(freed < PLACES, "a newest version is never freed");
+    Ok(freed)
 }
 
 /// The value of a call that is done, or its refusal by a number of its own.

@@ -116,6 +116,7 @@ fn there_are_64_tables() {
         assert_eq!(save_refused(&store, table, PCA9531), 11);
         assert_eq!(return_refused(&store, table, 1), 11);
         assert_eq!(read_refused(&store, table, 1, SETTING_ROOM), 11);
+        assert_eq!(keep_refused(&store, &[table, 1]), 11);
     }
 }
 
@@ -136,6 +137,7 @@ fn versions_that_were_never_written() {
     for (table, version) in missing {
         assert_eq!(return_refused(&store, table, version), 11);
         assert_eq!(read_refused(&store, table, version, SETTING_ROOM), 11);
+        assert_eq!(keep_refused(&store, &[table, version]), 11);
     }
 }
 
@@ -147,6 +149,7 @@ fn stores_of_wrong_size() {
         assert_eq!(save_refused(&store, 5, PCA9531), 4, "{size}");
         assert_eq!(return_refused(&store, 5, 1), 4, "{size}");
         assert_eq!(read_refused(&store, 5, 1, SETTING_ROOM), 4, "{size}");
+        assert_eq!(keep_refused(&store, &[]), 4, "{size}");
     }
 }
 
@@ -222,11 +225,13 @@ fn places_of_wrong_shape() {
         assert_eq!(save_refused(&store, 5, PCA9531), 4, "{last:?}");
         assert_eq!(return_refused(&store, 5, 1), 4, "{last:?}");
         assert_eq!(read_refused(&store, 5, 1, SETTING_ROOM), 4, "{last:?}");
-        // and as the place that would be read or returned to
+        assert_eq!(keep_refused(&store, &[]), 4, "{last:?}");
+        // and as the place that would be read, returned to or kept
         let store = store_of(&[last]);
         assert_eq!(save_refused(&store, 5, PCA9531), 4);
         assert_eq!(return_refused(&store, 5, 1), 4);
         assert_eq!(read_refused(&store, 5, 1, SETTING_ROOM), 4);
+        assert_eq!(keep_refused(&store, &[5, 1]), 4);
     }
 }
 
@@ -331,6 +336,31 @@ fn the_least_refusal_of_a_read_is_given() {
     assert_eq!(NUMBERED.len(), 47);
     for (row, (store, table, version, room, code)) in rows.into_iter().enumerate() {
         assert_eq!(read_refused(store, table, version, room), code, "row {row}");
+    }
+}
+
+#[test]
+fn the_least_refusal_of_a_keep_is_given() {
+    let one = store_of(&[numbered(1)]);
+    let wrong = changed(one.clone(), 11, 1);
+    let limit = store_of(&[numbered(LAST_VERSION)]);
+    let full = full();
+    let rows: [(&[u8], &[u64], u64); 12] = [
+        (&wrong, &[], 4),
+        (&wrong, &[5, 1], 4),
+        (&one, &[5], 4),
+        (&one, &[5, 1, 5], 4),
+        (&one, &[5, 2], 11),
+        (&one, &[64, 1], 11),
+        (&limit, &[5, 1], 11),
+        (&full, &[9, 257], 11),
+        (&wrong, &[5, 2], 4),                // 11
+        (&wrong, &[64, 1], 4),               // 11
+        (&one, &[5, 2, 5], 4),               // 11
+        (&wrong[..10_239], &[64, 1, 64], 4), // 11
+    ];
+    for (row, (store, list, code)) in rows.into_iter().enumerate() {
+        assert_eq!(keep_refused(store, list), code, "row {row}");
     }
 }
 

@@ -2,7 +2,7 @@
 //! the table, the kind, the address, a byte 0, and 28 for the registers.
 #![allow(dead_code)] // each test program uses a part
 
-use lamptwin::{store_fresh, store_read, store_return, store_save};
+use lamptwin::{store_fresh, store_keep, store_read, store_return, store_save};
 use lamptwin::{SETTING_ROOM, STORE_SIZE};
 
 pub const PCA9635: &[u8] = include_bytes!("../../../tests/settings/9635.txt");
@@ -100,6 +100,14 @@ pub fn return_refused(store: &[u8], table: u64, version: u64) -> u64 {
     let mut after = store.to_vec();
     let refused = store_return(&mut after, table, version).unwrap_err();
     assert!(after == store, "a refused return writes nothing");
+    refused.code
+}
+
+/// The same of a keep.
+pub fn keep_refused(store: &[u8], list: &[u64]) -> u64 {
+    let mut after = store.to_vec();
+    let refused = store_keep(&mut after, list).unwrap_err();
+    assert!(after == store, "a refused keep writes nothing");
     refused.code
 }
 
