@@ -177,7 +177,7 @@ fn print_store_mismatch(mismatch: &store::check::Mismatch) {
         mismatch.seed, mismatch.number
     );
     print_left(&mismatch.call, &mismatch.expected, &mismatch.actual);
-    let short = store::check::shorten(Call::by_library, mismatch);
+    let (call, short) = store::check::shorten(Call::by_library, mismatch);
     println!(
         "shortest failing store found, of {} bytes, 0 but for:",
         short.len()
@@ -185,9 +185,9 @@ fn print_store_mismatch(mismatch: &store::check::Mismatch) {
     for place in store::check::places_in_use(&short) {
         println!("{place}");
     }
-    let expected = mismatch.call.by_model(&mut Lent::new(&short));
-    let actual = mismatch.call.by_library(&short);
-    print_left(&mismatch.call, &expected, &actual);
+    let expected = call.by_model(&mut Lent::new(&short));
+    let actual = call.by_library(&short);
+    print_left(&call, &expected, &actual);
 }
 
 fn print_left(call: &Call, expected: &Left, actual: &Left) {
@@ -285,7 +285,7 @@ fn time_replays(runs: usize) {
 }
 
 fn time_store(runs: usize) -> io::Result<ExitCode> {
-    println!("calls on a store that holds 255 versions, or 256 where one is refused:");
+    println!("calls on a store that holds 255 versions, or 256 for a refused save and a keep:");
     println!("the time of one, the model's on what it keeps, the library's on the bytes, and over the model's");
     for subject in store::timing::subjects() {
         let times = store::timing::time(subject, runs)?;

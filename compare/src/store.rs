@@ -1,6 +1,8 @@
 //! The store of table settings: "each save under a table number 0 to 63
 //! becomes that table's next version, from 1", and "going back to version k
-//! writes a new version with k's contents; nothing earlier is altered".
+//! writes a new version with k's contents; nothing earlier is altered". To make
+//! room, "keep, for each table, the newest version and those the request
+//! lists".
 //!
 //! What a store holds is kept as plain data, and each version's place with it,
 //! so that all bytes of a lent store are foretold.
@@ -16,7 +18,7 @@ pub mod timing;
 
 use crate::model::{refuse_if, Answer};
 use setting::{Setting, KINDS};
-use std::collections::BTreeMap;
+use std::collections::{BTreeMap, BTreeSet};
 
 /// "The store holds 256 versions."
 pub const PLACES: usize = 256;
@@ -102,6 +104,14 @@ impl Lent {
         }
     }
 
+    /// The number of versions freed. The list has "64-bit numbers, table then
+    /// version".
+    pub fn keep(&mut self, list: &[u64]) -> Answer {
+        let (listed, rest) = list.as_chunks();
+        refuse_if(&[(WRONG_SHAPE, !rest.is_empty())])?;
+        self.store_mut()?.keep(listed)
+    }
+
     fn store_mut(&mut self) -> Result<&mut Store, u64> {
         match self {
             Lent::Store(store) => Ok(store),
@@ -139,6 +149,23 @@ impl Store {
         let text = self.find(table, version)?.setting.text();
         refuse_if(&[(SHORT_BUFFER, room < text.len())])?;
         Ok(text)
+    }
+
+    /// Frees what is neither listed nor the newest of its table. A version that
+    /// stands in two places is kept in both, or freed in both and counted twice.
+    pub fn keep(&mut self, listed: &[[u64; 2]]) -> Answer {
+        for &[table, number] in listed {
+            self.find(table, number)?;
+        }
+        let mut kept: BTreeSet<[u64; 2]> = listed.iter().copied().collect();
+        for (&table, versions) in &self.tables {
+            kept.extend(versions.iter().map(|one| [table, one.number]).max());
+        }
+        let held = self.versions().count();
+        for (&table, versions) in &mut self.tables {
+            versions.retain(|version| kept.contains(&[table, version.number]));
+        }
+        Ok((held - self.versions().count()) as u64)
     }
 
     /// One more than the table's greatest number.
@@ -415,12 +442,14 @@ mod tests {
             assert_eq!(lent.save(0, &board(0)), Err(4), "{place} {byte}");
             assert_eq!(lent.return_to(5, 1), Err(4));
             assert_eq!(read(&lent, 5, 1), Err(4));
+            assert_eq!(lent.keep(&[]), Err(4));
             assert_eq!(lent.bytes(), changed(place, byte));
         }
         for size in [0, 40, SIZE - 1, SIZE + 1, 2 * SIZE] {
             let mut lent = Lent::new(&vec![0; size]);
             assert_eq!(lent.save(0, &board(0)), Err(4));
             assert_eq!(read(&lent, 5, 1), Err(4));
+            assert_eq!(lent.keep(&[]), Err(4));
         }
     }
 
@@ -558,5 +587,177 @@ mod tests {
         assert_eq!(limit.return_to(9, 2), Err(6));
         assert_eq!(limit.return_to(9, 1), Err(6));
         assert_eq!(limit.save(8, &board(0)), Err(12));
+        assert_eq!(wrong.keep(&[64]), Err(4));
+        assert_eq!(wrong.keep(&[64, 1]), Err(4));
+        assert_eq!(full.keep(&[64, 1, 9]), Err(4));
+        assert_eq!(full.keep(&[64, 1]), Err(11));
+    }
+
+    /// Saves under these tables, in turn, each in the next place.
+    fn saved(tables: &[u64]) -> Lent {
+        let mut lent = fresh();
+        for (value, &table) in (1..).zip(tables) {
+            lent.save(table, &board(value)).unwrap();
+        }
+        lent
+    }
+
+    /// The bytes with these places free.
+    fn without(mut bytes: Vec<u8>, places: &[usize]) -> Vec<u8> {
+        for place in places {
+            bytes[40 * place..40 * place + 40].fill(0);
+        }
+        bytes
+    }
+
+    /// The versions of table 3 are in places 0, 1 and 3, those of table 8 in
+    /// places 2 and 4, that of table 0 in place 5.
+    const TABLES_OF_SAVES: [u64; 6] = [3, 3, 8, 3, 8, 0];
+
+    #[test]
+    fn keep_frees_all_but_the_newest_and_those_listed() {
+        let rows: [(&[u64], &[usize]); 9] = [
+            (&[], &[0, 1, 2]),
+            (&[3, 1], &[1, 2]),
+            (&[3, 2], &[0, 2]),
+            (&[8, 1], &[0, 1]),
+            (&[8, 1, 3, 1], &[1]),
+            (&[3, 2, 8, 1, 3, 1], &[]),
+            // twice, and the newest
+            (&[3, 2, 3, 2], &[0, 2]),
+            (&[3, 3, 8, 2, 0, 1], &[0, 1, 2]),
+            (&[0, 1, 3, 1, 3, 3, 3, 1], &[1, 2]),
+        ];
+        for (list, freed) in rows {
+            let mut lent = saved(&TABLES_OF_SAVES);
+            let left = without(lent.bytes(), freed);
+            assert_eq!(lent.keep(list), Ok(freed.len() as u64), "{list:?}");
+            assert_eq!(lent.bytes(), left, "{list:?}");
+            assert_eq!(lent.keep(list), Ok(0));
+            assert_eq!(lent.bytes(), left);
+        }
+    }
+
+    #[test]
+    fn keep_with_a_version_that_is_not_held_frees_nothing() {
+        let missing = [
+            [3, 0],
+            [3, 4],
+            [0, 2],
+            [1, 1],
+            [1, 3],
+            [3, 257],
+            [3, (1 << 32) + 1],
+            [3, u64::MAX],
+            [64, 0],
+            [67, 1],
+            [256, 1],
+            [(1 << 32) + 3, 1],
+            [u64::MAX, 1],
+        ];
+        let mut lent = saved(&TABLES_OF_SAVES);
+        let before = lent.clone();
+        for [table, version] in missing {
+            assert_eq!(lent.keep(&[table, version]), Err(11), "{table} {version}");
+            assert_eq!(lent.keep(&[table, version, 3, 1, 8, 2]), Err(11));
+            assert_eq!(lent.keep(&[3, 1, table, version, 8, 2]), Err(11));
+            assert_eq!(lent.keep(&[3, 1, 8, 2, table, version]), Err(11));
+            assert_eq!(lent, before);
+        }
+        assert_eq!(fresh().keep(&[0, 0]), Err(11));
+        assert_eq!(fresh().keep(&[0, 1]), Err(11));
+        assert_eq!(fresh().keep(&[]), Ok(0));
+    }
+
+    #[test]
+    fn a_list_has_an_even_length() {
+        let mut lent = saved(&TABLES_OF_SAVES);
+        let before = lent.clone();
+        for list in [&[3][..], &[3, 1, 8], &[3, 9, 8], &[0; 511]] {
+            assert_eq!(lent.keep(list), Err(4));
+            assert_eq!(lent, before);
+        }
+    }
+
+    #[test]
+    fn freed_versions_are_gone_and_their_numbers_are_not_given_again() {
+        let mut lent = saved(&TABLES_OF_SAVES);
+        assert_eq!(lent.keep(&[3, 1]), Ok(2));
+        for (table, version) in [(3, 2), (8, 1)] {
+            assert_eq!(read(&lent, table, version), Err(11));
+            assert_eq!(lent.return_to(table, version), Err(11));
+            assert_eq!(lent.keep(&[table, version]), Err(11));
+        }
+        for (table, version, value) in [(3, 1, 1), (3, 3, 4), (8, 2, 5), (0, 1, 6)] {
+            assert_eq!(read(&lent, table, version), Ok(board(value)));
+        }
+        for (table, number, place) in [(8, 3, 1), (3, 4, 2), (3, 5, 6)] {
+            assert_eq!(lent.save(table, &board(9)), Ok(number));
+            let head = [number as u8, 0, 0, 0, 0, 0, 0, 0, table as u8];
+            assert_eq!(lent.bytes()[40 * place..40 * place + 9], head);
+        }
+        assert_eq!(lent.keep(&[]), Ok(4));
+        assert_eq!(lent.return_to(3, 5), Ok(6));
+        assert_eq!(lent.keep(&[]), Ok(1));
+        assert_eq!(lent.return_to(3, 5), Err(11));
+        assert_eq!(lent.save(3, &board(0)), Ok(7));
+    }
+
+    #[test]
+    fn a_full_store_takes_saves_again() {
+        let mut lent = full();
+        let before = lent.bytes();
+        let all: Vec<u64> = (1..=256).flat_map(|number| [9, number]).collect();
+        assert_eq!(lent.keep(&all), Ok(0));
+        assert_eq!(lent.bytes(), before);
+        assert_eq!(lent.keep(&all[2..]), Ok(1));
+        assert_eq!(lent.bytes(), without(before, &[0]));
+        assert_eq!(lent.save(9, &board(0)), Ok(257));
+        assert_eq!(lent.save(9, &board(0)), Err(12));
+        assert_eq!(lent.keep(&[]), Ok(255));
+        assert_eq!(lent.bytes()[..8], [1, 1, 0, 0, 0, 0, 0, 0]);
+        assert_eq!(lent.bytes()[40..], [0; 10_200]);
+    }
+
+    /// By number, not by place.
+    #[test]
+    fn the_newest_has_the_greatest_number() {
+        let mut bytes = full().bytes();
+        bytes[..8].copy_from_slice(&1000_u64.to_le_bytes());
+        let mut lent = Lent::new(&bytes);
+        assert_eq!(lent.keep(&[9, 7]), Ok(254));
+        let others: Vec<usize> = (1..256).filter(|&place| place != 6).collect();
+        assert_eq!(lent.bytes(), without(bytes, &others));
+        assert_eq!(lent.save(9, &board(0)), Ok(1001));
+    }
+
+    #[test]
+    fn a_version_in_two_places_is_kept_or_freed_in_both() {
+        let mut bytes = store_of(&PLACE);
+        for place in [1, 2, 5] {
+            bytes[40 * place..40 * place + 18].copy_from_slice(&PLACE);
+            bytes[40 * place + 17] = place as u8;
+        }
+        let mut lent = Lent::new(&bytes);
+        assert_eq!(lent.keep(&[]), Ok(0));
+        bytes[200] = 2;
+        let mut lent = Lent::new(&bytes);
+        assert_eq!(lent.keep(&[5, 1]), Ok(0));
+        assert_eq!(lent.bytes(), bytes);
+        assert_eq!(lent.keep(&[5, 2]), Ok(3));
+        assert_eq!(lent.bytes(), without(bytes, &[0, 1, 2]));
+    }
+
+    #[test]
+    fn a_version_at_the_limit_of_numbers_is_kept() {
+        let mut lent = full_at_limit();
+        assert_eq!(lent.keep(&[9, 1]), Err(11));
+        assert_eq!(lent.keep(&[9, 2, 9, 1 << 48]), Ok(254));
+        assert_eq!(lent.save(9, &board(0)), Err(6));
+        assert_eq!(lent.return_to(9, 2), Err(6));
+        assert_eq!(lent.keep(&[]), Ok(1));
+        assert_eq!(read(&lent, 9, 1 << 48), Ok(board(1)));
+        assert_eq!(lent.save(9, &board(0)), Err(6));
+        assert_eq!(lent.save(8, &board(0)), Ok(1));
     }
 }

@@ -26,14 +26,18 @@ pub enum Call {
         /// As it is before the call.
         buffer: Vec<u8>,
     },
+    Keep {
+        list: Vec<u64>,
+    },
 }
 
 /// The names of the calls, each with all its answers' numbers, 0 for done.
-pub const CODES: [(&str, &[u64]); 4] = [
+pub const CODES: [(&str, &[u64]); 5] = [
     ("fresh", &[0, 4]),
     ("save", &[0, 1, 2, 4, 6, 11, 12]),
     ("return", &[0, 4, 6, 11, 12]),
     ("read", &[0, 4, 8, 11]),
+    ("keep", &[0, 4, 11]),
 ];
 
 /// What a call leaves: its answer, and every lent byte.
@@ -52,6 +56,7 @@ impl Call {
             Call::Save { .. } => "save",
             Call::Return { .. } => "return",
             Call::Read { .. } => "read",
+            Call::Keep { .. } => "keep",
         }
     }
 
@@ -60,6 +65,14 @@ impl Call {
         match self {
             Call::Read { buffer, .. } => buffer.clone(),
             _ => Vec::new(),
+        }
+    }
+
+    /// The list that is lent besides the store, and is not changed.
+    pub fn list(&self) -> &[u64] {
+        match self {
+            Call::Keep { list } => list,
+            _ => &[],
         }
     }
 
@@ -99,6 +112,7 @@ impl Call {
                     text.len() as u64
                 })
             }
+            Call::Keep { ref list } => lent.keep(list),
         }
     }
 
@@ -112,6 +126,7 @@ impl Call {
                 let length = lamptwin::store_read(store, table, version, buffer);
                 length.map(|length| length as u64)
             }
+            Call::Keep { ref list } => lamptwin::store_keep(store, list),
         };
         answer.map_err(|refused| refused.code)
     }
@@ -134,6 +149,7 @@ impl fmt::Display for Call {
                 let room = buffer.len();
                 write!(f, "{name} table={table} version={version} buffer={room}")
             }
+            Call::Keep { list } => write!(f, "{name} list={list:?}"),
         }
     }
 }

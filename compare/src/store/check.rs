@@ -97,20 +97,30 @@ impl Outcome {
     }
 }
 
-/// The store with the fewest places in use that was found to which the call
-/// still leaves something else.
-pub fn shorten(other: Calls, mismatch: &Mismatch) -> Vec<u8> {
+/// The call with the shortest list, and the store with the fewest places in
+/// use, that were found and still leave something else.
+pub fn shorten(other: Calls, mismatch: &Mismatch) -> (Call, Vec<u8>) {
+    let differ =
+        |call: &Call, store: &[u8]| call.by_model(&mut Lent::new(store)) != other(call, store);
+    let mut call = mismatch.call.clone();
     let mut store = mismatch.store.clone();
+    for start in (0..call.list().len()).step_by(2).rev() {
+        let mut list = call.list().to_vec();
+        list.drain(start..list.len().min(start + 2));
+        let less = Call::Keep { list };
+        if differ(&less, &store) {
+            call = less;
+        }
+    }
     for start in (0..store.len()).step_by(PLACE_SIZE) {
         let mut less = store.clone();
         let end = less.len().min(start + PLACE_SIZE);
         less[start..end].fill(0);
-        let call = &mismatch.call;
-        if call.by_model(&mut Lent::new(&less)) != other(call, &less) {
+        if differ(&call, &less) {
             store = less;
         }
     }
-    store
+    (call, store)
 }
 
 /// An answer as the text program writes it.

@@ -1,10 +1,12 @@
 //! Whether the comparison finds faults: each function here answers calls as
 //! the model does, but for one thing.
 
+mod keep;
+
 use super::calls::{Call, Calls, Left};
-use super::check::{compare, shorten, ENOUGH_SEEDS};
+use super::check::{compare, places_in_use, shorten, ENOUGH_SEEDS};
 use super::setting::KINDS;
-use super::{Lent, Store, MAX_VERSION, PLACES, PLACE_SIZE, SIZE};
+use super::{Lent, Store, MAX_VERSION, PLACE_SIZE, SIZE};
 use crate::model::Answer;
 
 const CALLS: u64 = 200;
@@ -80,7 +82,7 @@ fn is_full(store: &[u8]) -> bool {
 /// The table and version that a call names.
 fn named(call: &mut Call) -> (Option<&mut u64>, Option<&mut u64>) {
     match call {
-        Call::Fresh => (None, None),
+        Call::Fresh | Call::Keep { .. } => (None, None),
         Call::Save { table, .. } => (Some(table), None),
         Call::Return { table, version } | Call::Read { table, version, .. } => {
             (Some(table), Some(version))
@@ -413,7 +415,7 @@ fn without_a_fault_nothing_is_found_and_every_code_occurs() {
 
 #[test]
 fn each_fault_is_found() {
-    for (name, fault) in FAULTS {
+    for (name, fault) in FAULTS.into_iter().chain(keep::FAULTS) {
         let outcome = compare(fault, 1, ENOUGH_SEEDS, CALLS);
         assert!(outcome.mismatch.is_some(), "{name}");
     }
@@ -423,8 +425,6 @@ fn each_fault_is_found() {
 #[test]
 fn places_that_a_failure_needs_stay() {
     let mismatch = compare(last_of_two_read, 1, ENOUGH_SEEDS, CALLS).mismatch;
-    let store = shorten(last_of_two_read, &mismatch.unwrap());
-    let places = store.chunks(PLACE_SIZE);
-    let in_use = places.filter(|bytes| bytes.iter().any(|&byte| byte != 0));
-    assert_eq!((in_use.count(), store.len()), (2, PLACES * PLACE_SIZE));
+    let (_, store) = shorten(last_of_two_read, &mismatch.unwrap());
+    assert_eq!((places_in_use(&store).len(), store.len()), (2, SIZE));
 }

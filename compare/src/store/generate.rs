@@ -1,5 +1,5 @@
-//! Seeded calls on lent stores: fresh ones, full ones, ones whose numbers come
-//! to their limit, and damaged ones.
+//! Seeded calls on lent stores: fresh ones, full ones, ones in which room was
+//! made, ones whose numbers come to their limit, and damaged ones.
 //!
 //! The generator looks at the model's store, so it knows which versions there
 //! are and how long their texts are.
@@ -11,7 +11,7 @@ use crate::store::{texts, Lent, Version, MAX_VERSION, PLACES, PLACE_SIZE, SIZE, 
 pub struct Generator {
     random: Random,
     /// Whether all calls are on one store, fresh at first, so that it fills by
-    /// these calls alone.
+    /// these calls alone, and again once room was made in it.
     patient: bool,
 }
 
@@ -89,7 +89,7 @@ impl Generator {
     pub fn next_buffer(&mut self, lent: &Lent) -> Option<Vec<u8>> {
         let percent = match lent {
             _ if self.patient => 0,
-            Lent::Store(_) => 3,
+            Lent::Store(_) => 4,
             Lent::Other(_) => 12,
         };
         let change = self.random.chance(percent);
@@ -146,8 +146,9 @@ impl Generator {
                 *self.random.pick(&in_use)
             };
             let start = any / PLACE_SIZE * PLACE_SIZE;
-            let part = *self.random.pick(&[12, PLACE_SIZE]);
-            let at = (start + self.random.index(part)).min(bytes.len() - 1);
+            let (first, end) = *self.random.pick(&[(0, 12), (8, 12), (0, PLACE_SIZE)]);
+            let part = first + self.random.index(end - first);
+            let at = (start + part).min(bytes.len() - 1);
             bytes[at] = match self.random.below(4) {
                 0 => 0,
                 1 => bytes[at].wrapping_add(1),
@@ -167,6 +168,15 @@ impl Generator {
         if self.random.chance(fresh) {
             return Call::Fresh;
         }
+        let keep = match lent {
+            Lent::Store(store) if self.patient && !store.is_full() => 0,
+            _ if self.patient => 20,
+            Lent::Store(_) => 4,
+            Lent::Other(_) => 12,
+        };
+        if self.random.chance(keep) {
+            return self.keep(lent);
+        }
         match self.random.below(10) {
             0..=4 => self.save(),
             5..=6 => self.return_to(lent),
@@ -176,7 +186,8 @@ impl Generator {
 
     fn save(&mut self) -> Call {
         let table = self.any_table();
-        let text = if self.random.chance(60) {
+        let right = if self.patient { 95 } else { 60 };
+        let text = if self.random.chance(right) {
             texts::right(&mut self.random).text()
         } else {
             texts::wrong(&mut self.random)
@@ -199,6 +210,41 @@ impl Generator {
             version,
             buffer,
         }
+    }
+
+    /// Of versions that the store holds, none, some or all of them and some
+    /// twice; now and then with another pair among them, or a number alone.
+    fn keep(&mut self, lent: &Lent) -> Call {
+        let held = held(lent);
+        let mut pairs: Vec<(u64, u64)> = match self.random.below(8) {
+            0..=1 => Vec::new(),
+            2 => held,
+            3..=4 => {
+                let percent = *self.random.pick(&[10, 50, 90]);
+                let listed = held.into_iter().filter(|_| self.random.chance(percent));
+                listed.collect()
+            }
+            _ if held.is_empty() => vec![self.table_and_version(lent)],
+            _ => {
+                let pairs = *self.random.pick(&[1, 1, 2, 4, 300]);
+                (0..pairs).map(|_| *self.random.pick(&held)).collect()
+            }
+        };
+        if self.random.chance(20) {
+            let again = self.random.index(pairs.len() + 1);
+            pairs.extend_from_within(again..);
+        }
+        if self.random.chance(40) {
+            let at = self.random.index(pairs.len() + 1);
+            pairs.insert(at, self.table_and_version(lent));
+        }
+        let numbers = pairs.into_iter().flat_map(<[u64; 2]>::from);
+        let mut list: Vec<u64> = numbers.collect();
+        if self.random.chance(12) {
+            let at = *self.random.pick(&[0, list.len()]);
+            list.insert(at, self.random.below(TABLES));
+        }
+        Call::Keep { list }
     }
 
     /// The length of a buffer for a text, mostly about as long.
@@ -232,10 +278,7 @@ impl Generator {
     /// Mostly of a version that the store holds.
     fn table_and_version(&mut self, lent: &Lent) -> (u64, u64) {
         let edge = *self.random.pick(&EDGE_VERSIONS);
-        let held: Vec<(u64, u64)> = match lent {
-            Lent::Store(store) => store.versions().map(|(t, one)| (t, one.number)).collect(),
-            Lent::Other(_) => Vec::new(),
-        };
+        let held = held(lent);
         if held.is_empty() {
             return (self.any_table(), edge);
         }
@@ -243,12 +286,79 @@ impl Generator {
         match self.random.below(24) {
             0 => (table, version + 1),
             1 => (table, version - 1),
-            2 => (table, version + (1 << 32)),
+            2 => (table, version + *self.random.pick(&[1 << 32, 1 << 48])),
             3 => (table, edge),
             4 => (self.any_table(), version),
             5 => (table + *self.random.pick(&[TABLES, 256, 1 << 32]), version),
             6 => (self.any_table(), edge),
+            7 => (0, 0), // as the bytes of a free place
             _ => (table, version),
+        }
+    }
+}
+
+/// The table and the number of each version.
+fn held(lent: &Lent) -> Vec<(u64, u64)> {
+    match lent {
+        Lent::Store(store) => store.versions().map(|(t, one)| (t, one.number)).collect(),
+        Lent::Other(_) => Vec::new(),
+    }
+}
+
+#[cfg(test)]
+mod tests {
+    use super::*;
+    use crate::store::calls::Left;
+    use std::collections::BTreeMap;
+
+    /// Gives each call of a patient sequence, what it leaves by the model, and
+    /// the store after it.
+    fn for_each_call(seed: u64, mut each: impl FnMut(&Call, &Left, &Lent)) {
+        let mut generator = Generator::new(4 * seed);
+        let mut lent = Lent::new(&generator.first_buffer());
+        for _ in 0..1000 {
+            let call = generator.call(&lent);
+            let left = call.by_model(&mut lent);
+            each(&call, &left, &lent);
+        }
+    }
+
+    #[test]
+    fn a_patient_sequence_fills_its_store_again() {
+        for seed in 1..=10 {
+            let (mut full, mut times_full) = (false, 0);
+            for_each_call(seed, |_, _, lent| {
+                let was_full = full;
+                full = held(lent).len() == PLACES;
+                times_full += u64::from(full && !was_full);
+            });
+            assert!(times_full >= 2, "seed {seed}");
+        }
+    }
+
+    /// "New numbers never reuse old ones", and "reading any version", if it is
+    /// kept, "gives exactly what that save or return put in".
+    #[test]
+    fn a_patient_sequence_reads_what_was_put_in() {
+        for seed in 1..=10 {
+            let mut put_in = BTreeMap::new();
+            let mut reads = 0;
+            for_each_call(seed, |call, left, _| match (call, left.answer) {
+                (Call::Save { table, text }, Ok(number)) => {
+                    assert_eq!(put_in.insert((*table, number), text.clone()), None);
+                }
+                (Call::Return { table, version }, Ok(number)) => {
+                    let text = put_in[&(*table, *version)].clone();
+                    assert_eq!(put_in.insert((*table, number), text), None);
+                }
+                (Call::Read { table, version, .. }, Ok(length)) => {
+                    let text = &put_in[&(*table, *version)];
+                    assert_eq!(left.buffer[..length as usize], text[..]);
+                    reads += 1;
+                }
+                _ => {}
+            });
+            assert!(reads > 0 && put_in.len() > PLACES, "seed {seed}");
         }
     }
 }

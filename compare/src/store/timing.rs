@@ -1,5 +1,5 @@
-//! How long a call takes on a store that has one free place, and a save on one
-//! that has none.
+//! How long a call takes on a store that has one free place, and a save or a
+//! keep on one that has none.
 //!
 //! The library works on the lent bytes, and each of its calls looks at the
 //! shape of all of them. The model works on what it keeps of the same store:
@@ -27,12 +27,17 @@ pub enum Subject {
     Read(Kind),
     /// A save on a full store.
     Refused,
+    /// On a full store: frees all but the newest of each table.
+    KeepNewest,
+    /// On a full store: lists every version, so that none is freed.
+    KeepAll,
 }
 
 pub fn subjects() -> Vec<Subject> {
     let saves = KINDS.map(Subject::Save);
     let reads = KINDS.map(Subject::Read);
-    [&saves[..], &reads, &[Subject::Refused]].concat()
+    let others = [Subject::Refused, Subject::KeepNewest, Subject::KeepAll];
+    [&saves[..], &reads, &others].concat()
 }
 
 impl fmt::Display for Subject {
@@ -41,6 +46,8 @@ impl fmt::Display for Subject {
             Subject::Save(kind) => write!(f, "save, {}", kind.chip()),
             Subject::Read(kind) => write!(f, "read, {}", kind.chip()),
             Subject::Refused => f.write_str("save, refused"),
+            Subject::KeepNewest => f.write_str("keep, newest"),
+            Subject::KeepAll => f.write_str("keep, all"),
         }
     }
 }
@@ -53,20 +60,24 @@ impl Subject {
             Subject::Read(kind) => {
                 let is_of_kind = |place: &usize| kind_at(*place) == kind;
                 let place = (0..PLACES - 1).rfind(is_of_kind);
-                let place = place.expect("every kind is held") as u64;
+                let [table, version] = held_at(place.expect("every kind is held"));
                 Call::Read {
-                    table: place % TABLES,
-                    version: place / TABLES + 1,
+                    table,
+                    version,
                     buffer: vec![0; SETTING_ROOM],
                 }
             }
+            Subject::KeepNewest => Call::Keep { list: Vec::new() },
+            Subject::KeepAll => Call::Keep {
+                list: (0..PLACES).flat_map(held_at).collect(),
+            },
         }
     }
 
     fn store(self) -> Lent {
         match self {
             Subject::Save(_) | Subject::Read(_) => store_of(PLACES - 1),
-            Subject::Refused => store_of(PLACES),
+            Subject::Refused | Subject::KeepNewest | Subject::KeepAll => store_of(PLACES),
         }
     }
 }
@@ -91,14 +102,20 @@ fn kind_at(place: usize) -> Kind {
     KINDS[place % KINDS.len()]
 }
 
+/// The table and the version that stand in a place.
+fn held_at(place: usize) -> [u64; 2] {
+    let place = place as u64;
+    [place % TABLES, place / TABLES + 1]
+}
+
 /// So many versions, of each kind in turn, under each table in turn.
 fn store_of(versions: usize) -> Lent {
     let mut random = Random::new(1);
     let mut lent = Lent::Store(Store::default());
     for place in 0..versions {
+        let [table, version] = held_at(place);
         let text = setting(&mut random, kind_at(place)).text();
-        let saved = lent.save(place as u64 % TABLES, &text);
-        saved.expect("a place is free");
+        assert_eq!(lent.save(table, &text), Ok(version));
     }
     lent
 }
@@ -159,11 +176,13 @@ mod tests {
     use super::*;
     use crate::store::{PLACE_SIZE, SIZE};
 
-    /// Three versions of the last table are held, and four of each other.
+    /// Three versions of the last table are held, and four of each other, or
+    /// four of each in a full store.
     #[test]
     fn calls_do_as_named() {
         for subject in subjects() {
             let mut lent = subject.store();
+            let before = lent.bytes();
             let left = subject.call().by_model(&mut lent);
             match subject {
                 Subject::Save(_) => {
@@ -176,6 +195,16 @@ mod tests {
                     assert!(left.buffer.starts_with(text.as_bytes()));
                 }
                 Subject::Refused => assert_eq!(left.answer, Err(12)),
+                Subject::KeepNewest => {
+                    let (freed, kept) = left.store.split_at(192 * PLACE_SIZE);
+                    assert_eq!(left.answer, Ok(192));
+                    assert!(freed.iter().all(|&byte| byte == 0));
+                    assert_eq!(kept, &before[192 * PLACE_SIZE..]);
+                }
+                Subject::KeepAll => {
+                    assert_eq!(left.answer, Ok(0));
+                    assert_eq!(left.store, before);
+                }
             }
         }
     }
