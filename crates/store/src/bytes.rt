@@ -74,9 +74,9 @@ pub fn is_zero(part: &[u8]) -> bool
 pub fn clear(part: &mut [u8])
     ensures { λ _. ⌜ now (part .exit) ≡ replicate (length (now (part .entry))) 0 ⌝ }
 {
-    let mut i: usize = 0;
-    while i < part.len() {
-        part[i] = 0;
-        i += 1;
+    let mut at: usize = 0;
+    while at < part.len() {
+        part[at] = 0;
+        at += 1;
     }
 }

@@ -1,7 +1,7 @@
 -- Lists with only the versions that a test keeps: what is found in them, the newest of a table, how many there are.
 use Prim.Native.Nat.{ℕ, max, _+_, _≤_, _<_}
 use mathlib.Core.Path.{_≡_, refl, sym, ap, _∙_}
-use mathlib.Core.Bool.{Bool, true, false, not, _&&_, cond}
+use mathlib.Core.Bool.{Bool, true, not, _&&_, _||_, cond}
 use mathlib.Core.List.{List, [], _∷_, _++_}
 use native.Mathlib.Omega.{arith}
 use lib.Dec.{eqb, ltb}
@@ -148,7 +148,7 @@ many-alike p q h (e ∷ l) = rw (h e, many-alike p q h l) refl
 -- ---- what making room keeps
 
 pub kept-newest : (list : List ℕ) (table : ℕ) (l : List Saved) → newest table (only (isKept list l) l) ≡ newest table l
-kept-newest list table l = newest-only (isKept list l) table l (rw (eq-eqb (newest table l) (newest table l) refl) refl)
+kept-newest list table l = newest-only (isKept list l) table l (ap (λ (b : Bool). b || isListed list table (newest table l)) (eq-eqb (newest table l) (newest table l) refl))
 
 module _ (list : List ℕ) {l m : List Saved} (a : Alike l m) where
   keeps-alike : (table version : ℕ) → isKept list l table version ≡ isKept list m table version
