@@ -6,8 +6,8 @@ use lib.Dec.{leb, ltb, eqb}
 use lib.ListN.{length, drop}
 use Rattle.refusals.specs.Refusals.{Refusal, refuse, outcome}
 use Rattle.setting.specs.Reader.{textRefusals, settingOf}
-use Rattle.store.specs.Saved.{Saved, saved, newest, Found, nothing, just, isNothing, textOf, found, only}
-use Rattle.store.specs.Kept.{allHeld, isKept}
+use Rattle.store.specs.Saved.{Saved, saved, newest, Found, nothing, just, isNothing, textOf, found}
+use Rattle.store.specs.Kept.{allHeld, isKept, freedBy}
 use Rattle.store.specs.declared.calls.Answer.{Answer}
 use Rattle.store.specs.Layout.{storeSize, storeOk, savedOf, withSaved, withOnly, freshStore}
 
@@ -98,9 +98,8 @@ module _ {S : Type 0} (st : Storage S) where
 
   unfoldable pub keepReply : S → List ℕ → Reply S
   keepReply s list =
-      let keeps = isKept list (st .holds s) in
       outcome (keepRefusals s list) (refusedWith s)
-      (doneWith (length (only (λ table version. not (keeps table version)) (st .holds s))) (st .keep keeps s))
+      (doneWith (freedBy list (st .holds s)) (st .keep (isKept list (st .holds s)) s))
 
 -- ---- the bytes of a store
 

@@ -1,11 +1,12 @@
 -- What calls put into a store and take out of it, by the calls alone: a list of versions, and no bytes.
 use Prim.Native.Nat.{ℕ, _+_, _≤_}
 use mathlib.Core.Path.{_≡_}
-use mathlib.Core.Bool.{Bool, true, cond}
+use mathlib.Core.Bool.{Bool, true, not, _&&_, _||_, cond}
 use lib.Dec.{eqb}
 use mathlib.Core.List.{List, [], _∷_, _++_}
 use Rattle.basics.specs.Tabulate.{tabulate}
 use Rattle.store.specs.Saved.{Saved, newest, nothing, found, only}
+use Rattle.store.specs.Kept.{isKept}
 use Rattle.store.specs.Layout.{storeOk, savedOf}
 use Rattle.store.specs.Calls.{Reply, Storage, saveReply, returnReply, keepReply}
 
@@ -42,6 +43,17 @@ module _ {S : Type 0} (st : Storage S) where
   given table s [] = []
   given table s (c ∷ cs) = givenBy table s c ++ given table (after s c) cs
 
+  -- whether a call keeps a version, and whether all do: making room keeps the newest of its table and what is listed, where it is done
+  abbrev pub keptBy : S → Call → ℕ → ℕ → Bool
+  keptBy s (Save own text) table version = true
+  keptBy s (Return own back) table version = true
+  keptBy s (Read own back buffer) table version = true
+  keptBy s (Keep list) table version = not (eqb (keepReply st s list .code) 0) || isKept list (st .holds s) table version
+
+  unfoldable pub keptByAll : S → List Call → ℕ → ℕ → Bool
+  keptByAll s [] table version = true
+  keptByAll s (c ∷ cs) table version = keptBy s c table version && keptByAll (after s c) cs table version
+
 -- the same calls on a list of versions, the latest last
 abbrev pub listed : Storage (List Saved)
 listed = record { sound = λ l. true; holds = λ l. l; with = λ e l. l ++ e ∷ []; keep = only }
@@ -62,9 +74,8 @@ pub record Holds (store : List ℕ) (l : List Saved) : Type 0 where
   pub shape : storeOk store ≡ true
   pub versions : Alike (savedOf store) l
 
--- m is some of l, unaltered and in order, and behind them versions with numbers above all that l has of their table
-pub record Follows (l m : List Saved) : Type 0 where
-  pub keeps : ℕ → ℕ → Bool
+-- m is what a test keeps of l, unaltered and in order, and behind it versions with numbers above all that l has of their table
+pub record Follows (keeps : ℕ → ℕ → Bool) (l m : List Saved) : Type 0 where
   pub more : List Saved
   pub follows : m ≡ only keeps l ++ more
   pub above : (table version : ℕ) → version ≤ newest table l → found table version more ≡ nothing

@@ -1,11 +1,11 @@
 -- What making room keeps: the newest version of each table, and what a list names (RULES, Settings).
 use Prim.Native.Nat.{ℕ, _+_, _*_, _/_}
-use mathlib.Core.Bool.{Bool, _&&_, _||_}
+use mathlib.Core.Bool.{Bool, not, _&&_, _||_}
 use mathlib.Core.List.{List}
 use lib.Dec.{eqb}
 use lib.ListN.{length, getD}
 use Rattle.basics.specs.Below.{allBelow, anyBelow}
-use Rattle.store.specs.Saved.{Saved, newest, isHeld}
+use Rattle.store.specs.Saved.{Saved, newest, isHeld, only}
 
 -- a list has two numbers for each version that it names, table then version
 abbrev pub pairs : List ℕ → ℕ
@@ -30,3 +30,7 @@ allHeld list l = allBelow (pairs list) (λ i. isHeld (tableAt list i) (versionAt
 -- whether a version is kept
 abbrev pub isKept : List ℕ → List Saved → ℕ → ℕ → Bool
 isKept list l table version = eqb version (newest table l) || isListed list table version
+
+-- the number of versions that are not
+abbrev pub freedBy : List ℕ → List Saved → ℕ
+freedBy list l = length (only (λ table version. not (isKept list l table version)) l)

@@ -16,12 +16,12 @@ use Rattle.store.specs.Saved.{Saved, newest, nothing, found, isHeld}
 use Rattle.store.specs.Kept.{isKept}
 use Rattle.store.specs.Layout.{place, storeOk, savedOf, freePlace, withSaved, isFreed, freePart, freshStore}
 use Rattle.store.specs.Calls.{Storage, bytes, refusedWith, doneWith, next, putRefusals, saveRefusals, saveReply, returnRefusals, returnReply, readRefusals, readReply, keepRefusals, keepReply, freshRefusals, freshReply}
-use Rattle.store.specs.History.{Call, Save, Return, after, afterAll, given, listed, Holds, Follows, InOrder}
+use Rattle.store.specs.History.{Call, Save, Return, after, afterAll, given, keptByAll, listed, Holds, Follows, InOrder}
 use Rattle.store.specs.laws.Fresh.{fresh-ok, fresh-holds-nothing}
 use Rattle.store.specs.laws.Calls.{read-missing, return-missing}
 use Rattle.store.specs.laws.History.{save-agree, return-agree, read-same, keep-agree, after-holds, all-hold, all-given}
 use Rattle.store.specs.laws.Listed.{all-follow, all-numbered, from-one}
-use Rattle.store.specs.laws.Readings.{saved-text, returned-same, kept-same, gone-same}
+use Rattle.store.specs.laws.Readings.{saved-text, returned-same, kept-same, held-same, gone-same}
 use Rattle.store.specs.laws.Room.{newest-stays, place-kept, found-kept, value-gone}
 
 -- ---- the number of a refusal, and what it leaves
@@ -141,8 +141,8 @@ pub keep-answer : (cs : List Call) (list : List ℕ)
     → (keepReply bytes (afterAll bytes freshStore cs) list .code ≡ keepReply listed (afterAll listed [] cs) list .code) × (keepReply bytes (afterAll bytes freshStore cs) list .value ≡ keepReply listed (afterAll listed [] cs) list .value)
 keep-answer cs list = let a = keep-agree (afterAll bytes freshStore cs) (afterAll listed [] cs) (history cs) list in (a .same-code, a .same-value)
 
--- what the list held stays as it is or is gone, and what it gains has higher numbers
-pub list-follows : (l : List Saved) (cs : List Call) → Follows l (afterAll listed l cs)
+-- what the list held is there as it was where all calls keep it, and what it gains has higher numbers
+pub list-follows : (l : List Saved) (cs : List Call) → Follows (keptByAll listed l cs) l (afterAll listed l cs)
 list-follows = all-follow
 
 -- ---- in any store of the right shape
@@ -151,6 +151,10 @@ module _ (store : List ℕ) (ok : storeOk store ≡ true) (table : ℕ) where
   -- the numbers that saves and returns give to a table are those behind its newest, each once and in order
   pub numbers-in-order : (cs : List Call) → InOrder (newest table (savedOf store)) (newest table (savedOf (afterAll bytes store cs))) (given bytes table store cs)
   numbers-in-order cs = rw (all-given table store (savedOf store) (own store ok) cs, all-hold store (savedOf store) (own store ok) cs .versions .same-newest table) (all-numbered table (savedOf store) cs)
+
+  -- a version that is held stays so exactly while each call keeps it
+  pub held-while : (version : ℕ) (cs : List Call) → isHeld table version (savedOf store) ≡ true → isHeld table version (savedOf (afterAll bytes store cs)) ≡ keptByAll bytes store cs table version
+  held-while version cs old = held-same store (savedOf store) (own store ok) table version cs old
 
   -- what a save took in is read back, byte by byte, whatever calls come between, while it is held
   pub saved-read : (text : List ℕ) (cs : List Call) (buffer : List ℕ) → saveReply bytes store table text .code ≡ 0 → length text ≤ length buffer

@@ -2,12 +2,12 @@
 use crate::places::PLACES;
 use crate::places::WIDTH;
 ghost use mathlib.Core.Path.{_≡_};
-ghost use mathlib.Core.Bool.{true, not};
+ghost use mathlib.Core.Bool.{true};
 ghost use Prim.Native.Nat.{ℕ, max, _<_};
 ghost use lib.ListN.{length, getD};
 ghost use Rattle.refusals.specs.Refusals.{codeOf};
-ghost use Rattle.store.specs.Saved.{newest, only};
-ghost use Rattle.store.specs.Kept.{pairs, isPair, isListed, allHeld, isKept};
+ghost use Rattle.store.specs.Saved.{newest};
+ghost use Rattle.store.specs.Kept.{pairs, isPair, isListed, allHeld, isKept, freedBy};
 ghost use Rattle.store.specs.Layout.{storeSize, storeOk, savedAt, savedOf, isFreed, withOnly};
 ghost use Rattle.store.specs.Calls.{bytes, keepRefusals};
 ghost use Rattle.store.specs.laws.Only.{keptOf, GreatestOf};
@@ -119,7 +119,7 @@ fn is_freed(part: &[u8], list: &[u64], greatest: &[u64]) -> bool
 fn free_by(store: &mut [u8], list: &[u64], greatest: &[u64]) -> u64
     requires { ⌜ (storeOk (now store) ≡ true) × GreatestOf (now store) (now greatest) ⌝ }
     ensures { λ _. ⌜ now (store .exit) ≡ withOnly (isKept (now (list .entry)) (savedOf (now (store .entry)))) (now (store .entry)) ⌝ }
-    ensures { λ r. ⌜ r ≡ length (only (λ table version. not (isKept (now (list .entry)) (savedOf (now (store .entry))) table version)) (savedOf (now (store .entry)))) ⌝ }
+    ensures { λ r. ⌜ r ≡ freedBy (now (list .entry)) (savedOf (now (store .entry))) ⌝ }
 {
     let mut freed: u64 = 0;
     let mut i: usize = 0;
@@ -139,7 +139,7 @@ fn free_by(store: &mut [u8], list: &[u64], greatest: &[u64]) -> u64
 pub fn free_others(store: &mut [u8], list: &[u64]) -> u64
     requires { ⌜ storeOk (now store) ≡ true ⌝ }
     ensures { λ _. ⌜ now (store .exit) ≡ withOnly (isKept (now (list .entry)) (savedOf (now (store .entry)))) (now (store .entry)) ⌝ }
-    ensures { λ r. ⌜ r ≡ length (only (λ table version. not (isKept (now (list .entry)) (savedOf (now (store .entry))) table version)) (savedOf (now (store .entry)))) ⌝ }
+    ensures { λ r. ⌜ r ≡ freedBy (now (list .entry)) (savedOf (now (store .entry))) ⌝ }
 {
     let greatest = newest_of_each(&store[..]);
     free_by(store, list, &greatest)

@@ -14,10 +14,10 @@ use Rattle.refusals.specs.laws.Outcome.{done-is, refused-is}
 use Rattle.setting.specs.Reader.{settingOf}
 use Rattle.setting.specs.Setting.{settingText}
 use Rattle.setting.specs.declared.Setting.{Setting}
-use Rattle.store.specs.Saved.{saved, nothing, just, found, only}
+use Rattle.store.specs.Saved.{saved, nothing, just, found}
 use Rattle.store.specs.Layout.{storeSize, freshStore}
 use Rattle.store.specs.Calls.{Reply, replied, Storage, refusedWith, doneWith, next, saveRefusals, saveReply, again, returnRefusals, returnReply, readRefusals, readReply, keepRefusals, keepReply, freshRefusals, freshReply}
-use Rattle.store.specs.Kept.{allHeld, isKept}
+use Rattle.store.specs.Kept.{allHeld, isKept, freedBy}
 
 -- ---- a fresh store
 
@@ -60,8 +60,7 @@ four-both false true = refl
 four-both false false = refl
 
 module _ {S : Type 0} (st : Storage S) (s : S) (list : List ℕ) where
-  pub keep-done : codeOf (keepRefusals st s list) ≡ 0
-      → keepReply st s list ≡ doneWith (length (only (λ table version. not (isKept list (st .holds s) table version)) (st .holds s))) (st .keep (isKept list (st .holds s)) s)
+  pub keep-done : codeOf (keepRefusals st s list) ≡ 0 → keepReply st s list ≡ doneWith (freedBy list (st .holds s)) (st .keep (isKept list (st .holds s)) s)
   unfolding keepReply
   keep-done z = done-is (keepRefusals st s list) (refusedWith s) _ z
 

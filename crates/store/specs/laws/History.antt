@@ -19,10 +19,10 @@ use Rattle.store.specs.Saved.{Saved, saved, Found, nothing, just, isNoth
 use Rattle.store.specs.Kept.{isKept}
 use Rattle.store.specs.Layout.{savedOf, freePlace, withSaved, withOnly, versionIn, place}
 use Rattle.store.specs.Calls.{Reply, bytes, refusedWith, next, putRefusals, saveRefusals, saveReply, again, returnRefusals, returnReply, readRefusals, readReply, keepRefusals, keepReply}
-use Rattle.store.specs.History.{Call, Save, Return, Read, Keep, numberIn, after, afterAll, givenBy, given, listed, Holds}
+use Rattle.store.specs.History.{Call, Save, Return, Read, Keep, numberIn, after, afterAll, givenBy, given, keptBy, keptByAll, listed, Holds}
 use Rattle.store.specs.laws.Layout.{IsSaved, inserted-below, put-ok, full-is, found-held}
 use Rattle.store.specs.laws.Saved.{inserted-alike, alike-trans, alike-more, alike-long}
-use Rattle.store.specs.laws.Kept.{held-alike, gone-alike, kept-alike}
+use Rattle.store.specs.laws.Kept.{held-alike, freed-alike, kept-alike}
 use Rattle.store.specs.laws.Only.{left-ok, left-holds}
 
 -- ---- one version more
@@ -155,7 +155,7 @@ module _ (store : List ℕ) (l : List Saved) (h : Holds store l) (list : List �
   unfolding keepReply
   keep-agree =
       agree-by store l h (keepRefusals bytes store list) (keepRefusals listed l list) keep-same _ _
-      (λ z. record { same-code = refl; same-value = gone-alike list (h .versions); same-state = keep-holds })
+      (λ z. record { same-code = refl; same-value = freed-alike list (h .versions); same-state = keep-holds })
 
 -- ---- any calls
 
@@ -186,3 +186,17 @@ unfolding given
 all-given table store l h [] = refl
 all-given table store l h (c ∷ cs) =
     rw (given-by table store l h c, all-given table (after bytes store c) (after listed l c) (after-holds store l h c) cs) refl
+
+-- and the versions that they keep
+
+kept-by : (store : List ℕ) (l : List Saved) → Holds store l → (c : Call) (table version : ℕ) → keptBy bytes store c table version ≡ keptBy listed l c table version
+kept-by store l h (Save own text) table version = refl
+kept-by store l h (Return own back) table version = refl
+kept-by store l h (Read own back buffer) table version = refl
+kept-by store l h (Keep list) table version = rw (keep-agree store l h list .same-code, h .versions .same-newest table) refl
+
+pub all-kept : (store : List ℕ) (l : List Saved) → Holds store l → (cs : List Call) (table version : ℕ) → keptByAll bytes store cs table version ≡ keptByAll listed l cs table version
+unfolding keptByAll
+all-kept store l h [] table version = refl
+all-kept store l h (c ∷ cs) table version =
+    rw (kept-by store l h c table version, all-kept (after bytes store c) (after listed l c) (after-holds store l h c) cs table version) refl

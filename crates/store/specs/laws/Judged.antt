@@ -18,8 +18,8 @@ use Rattle.setting.specs.Setting.{settingText}
 use Rattle.setting.specs.declared.Setting.{Setting}
 use Rattle.text.specs.Write.{Written}
 use Rattle.text.specs.laws.Write.{written-first}
-use Rattle.store.specs.Saved.{saved, newest, Found, nothing, just, isNothing, found, only}
-use Rattle.store.specs.Kept.{isKept}
+use Rattle.store.specs.Saved.{saved, newest, Found, nothing, just, isNothing, found}
+use Rattle.store.specs.Kept.{isKept, freedBy}
 use Rattle.store.specs.Layout.{storeSize, settingIn, placeOf, place, storeOk, savedOf, freePlace, withOnly}
 use Rattle.store.specs.Calls.{bytes, refusedWith, doneWith, next, putRefusals, saveRefusals, saveReply, returnRefusals, returnReply, readReply, keepRefusals, keepReply}
 use Rattle.store.specs.laws.Layout.{ok-long, heldPlace, found-place, missing-at, found-held, full-is}
@@ -201,6 +201,6 @@ module _ (store list : List ℕ) (code : ℕ) (is : code ≡ codeOf (keepRefusal
     unfolding keepRefusals
     keep-ready = not-false (storeOk store) (accepted (keepRefusals bytes store list) refl (sym is ∙ z) .0)
 
-    pub keep-is : (after : List ℕ) (value : ℕ) → after ≡ withOnly (isKept list (savedOf store)) store → value ≡ length (only (λ table version. not (isKept list (savedOf store) table version)) (savedOf store))
+    pub keep-is : (after : List ℕ) (value : ℕ) → after ≡ withOnly (isKept list (savedOf store)) store → value ≡ freedBy list (savedOf store)
         → doneWith value after ≡ keepReply bytes store list
     keep-is after value e q = rw (e, q) (sym (keep-done bytes store list (sym is ∙ z)))

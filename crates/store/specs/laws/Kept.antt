@@ -10,34 +10,34 @@ use borrow.Author.Tests.{eqb-true, eqb-false, eq-eqb, ltb-true, ltb-false}
 use Rattle.basics.specs.laws.Below.{below-alike}
 use Rattle.basics.specs.laws.Logic.{tested, holds, fails, and-left, and-right}
 use Rattle.store.specs.Saved.{Saved, newest, Found, nothing, just, isNothing, found, only}
-use Rattle.store.specs.Kept.{tableAt, versionAt, pairs, isListed, allHeld, isKept}
+use Rattle.store.specs.Kept.{tableAt, versionAt, pairs, isListed, allHeld, isKept, freedBy}
 use Rattle.store.specs.History.{many, Alike}
 
 -- a test of a version
-abbrev pub keptBy : (ℕ → ℕ → Bool) → Saved → Bool
-keptBy keeps e = keeps (e .table) (e .version)
+abbrev passes : (ℕ → ℕ → Bool) → Saved → Bool
+passes keeps e = keeps (e .table) (e .version)
 
 pub only-both : (keeps : ℕ → ℕ → Bool) (l m : List Saved) → only keeps (l ++ m) ≡ only keeps l ++ only keeps m
 unfolding only
 only-both keeps [] m = refl
 only-both keeps (e ∷ l) m =
-    elim (tested (keptBy keeps e)) [
+    elim (tested (passes keeps e)) [
       | holds t ↦ rw t (ap (λ (k : List Saved). e ∷ k) (only-both keeps l m))
       | fails t ↦ rw t (only-both keeps l m)
     ]
 
--- all of it, and what two tests keep, one after the other
-pub only-all : (l : List Saved) → only (λ table version. true) l ≡ l
+-- where a test keeps all, and what two tests keep, one after the other
+pub only-all : (keeps : ℕ → ℕ → Bool) → ((table version : ℕ) → keeps table version ≡ true) → (l : List Saved) → only keeps l ≡ l
 unfolding only
-only-all [] = refl
-only-all (e ∷ l) = ap (λ (k : List Saved). e ∷ k) (only-all l)
+only-all keeps h [] = refl
+only-all keeps h (e ∷ l) = rw (h (e .table) (e .version)) (ap (λ (k : List Saved). e ∷ k) (only-all keeps h l))
 
 pub only-twice : (p q : ℕ → ℕ → Bool) (l : List Saved) → only q (only p l) ≡ only (λ table version. p table version && q table version) l
 unfolding only
 only-twice p q [] = refl
 only-twice p q (e ∷ l) =
-    elim (tested (keptBy p e)) [
-      | holds t ↦ rw t (elim (tested (keptBy q e)) [
+    elim (tested (passes p e)) [
+      | holds t ↦ rw t (elim (tested (passes q e)) [
         | holds u ↦ rw u (ap (λ (k : List Saved). e ∷ k) (only-twice p q l))
         | fails u ↦ rw u (only-twice p q l)
       ])
@@ -54,13 +54,13 @@ found-only keeps table version (e ∷ l) =
       | holds t ↦
           let own = eqb-true (e .table) table (and-left (eqb (e .table) table) (eqb (e .version) version) t) in
           let same = eqb-true (e .version) version (and-right (eqb (e .table) table) (eqb (e .version) version) t) in
-          let test : keptBy keeps e ≡ keeps table version = rw (own, same) refl in
+          let test : passes keeps e ≡ keeps table version = rw (own, same) refl in
           elim (tested (keeps table version)) [
             | holds u ↦ rw (test, u, t) refl
             | fails u ↦ rw (test, u) (found-only keeps table version l ∙ rw u refl)
           ]
       | fails t ↦
-          elim (tested (keptBy keeps e)) [
+          elim (tested (passes keeps e)) [
             | holds u ↦ rw (u, t) (found-only keeps table version l)
             | fails u ↦ rw (u, t) (found-only keeps table version l)
           ]
@@ -72,7 +72,7 @@ newest-less : (keeps : ℕ → ℕ → Bool) (table : ℕ) (l : List Saved) → 
 unfolding newest only
 newest-less keeps table [] = omega arith
 newest-less keeps table (e ∷ l) =
-    elim (tested (keptBy keeps e)) [
+    elim (tested (passes keeps e)) [
       | holds t ↦ rw t (omega (arith, newest-less keeps table l))
       | fails t ↦ rw t (omega (arith, newest-less keeps table l))
     ]
@@ -84,14 +84,14 @@ newest-there keeps table n k (e ∷ l) h =
     elim (tested (eqb (newest table l) n)) [
       | holds t ↦
           let rest = newest-there keeps table n k l (eqb-true (newest table l) n t) in
-          elim (tested (keptBy keeps e)) [ holds u ↦ rw u (omega (arith, rest)) | fails u ↦ rw u rest ]
+          elim (tested (passes keeps e)) [ holds u ↦ rw u (omega (arith, rest)) | fails u ↦ rw u rest ]
       | fails t ↦
           elim (tested (eqb (e .table) table)) [
             | holds u ↦
                 let d = eqb-false (newest table l) n t in
                 let own = eqb-true (e .table) table u in
                 let same : e .version ≡ n = highest (e .version) (newest table l) (rw u at h) d in
-                let kept : keptBy keeps e ≡ true = rw (own, same) k in
+                let kept : passes keeps e ≡ true = rw (own, same) k in
                 rw (kept, u) (omega (arith, same))
             | fails u ↦ absurd (eqb-false (newest table l) n t (lowest (newest table l) (rw u at h)))
           ]
@@ -112,20 +112,20 @@ newest-only keeps table l k = omega (arith, newest-less keeps table l, newest-th
 
 -- ---- how many
 
-many-only : (p : Saved → Bool) (keeps : ℕ → ℕ → Bool) (l : List Saved) → many p (only keeps l) ≡ many (λ e. keptBy keeps e && p e) l
+many-only : (p : Saved → Bool) (keeps : ℕ → ℕ → Bool) (l : List Saved) → many p (only keeps l) ≡ many (λ e. passes keeps e && p e) l
 unfolding many only
 many-only p keeps [] = refl
 many-only p keeps (e ∷ l) =
-    elim (tested (keptBy keeps e)) [
+    elim (tested (passes keeps e)) [
       | holds t ↦ rw t (omega (arith, many-only p keeps l))
       | fails t ↦ rw t (omega (arith, many-only p keeps l))
     ]
 
-only-long : (keeps : ℕ → ℕ → Bool) (l : List Saved) → length (only keeps l) ≡ many (keptBy keeps) l
+only-long : (keeps : ℕ → ℕ → Bool) (l : List Saved) → length (only keeps l) ≡ many (passes keeps) l
 unfolding many only
 only-long keeps [] = refl
 only-long keeps (e ∷ l) =
-    elim (tested (keptBy keeps e)) [
+    elim (tested (passes keeps e)) [
       | holds t ↦ rw t (omega (arith, only-long keeps l))
       | fails t ↦ rw t (omega (arith, only-long keeps l))
     ]
@@ -135,7 +135,7 @@ pub both-long : (keeps : ℕ → ℕ → Bool) (l : List Saved) → length (only
 unfolding only
 both-long keeps [] = refl
 both-long keeps (e ∷ l) =
-    elim (tested (keptBy keeps e)) [
+    elim (tested (passes keeps e)) [
       | holds t ↦ rw t (omega (arith, both-long keeps l))
       | fails t ↦ rw t (omega (arith, both-long keeps l))
     ]
@@ -159,8 +159,8 @@ module _ (list : List ℕ) {l m : List Saved} (a : Alike l m) where
   held-alike =
       below-alike _ _ (pairs list) (λ i h. ap (λ (f : Found). not (isNothing f)) (a .same-found (tableAt list i) (versionAt list i)))
 
-  pub gone-alike : length (only (λ table version. not (isKept list l table version)) l) ≡ length (only (λ table version. not (isKept list m table version)) m)
-  gone-alike =
+  pub freed-alike : freedBy list l ≡ freedBy list m
+  freed-alike =
       only-long (λ table version. not (isKept list l table version)) l
       ∙ a .same-many _
       ∙ many-alike _ _ (λ e. ap not (keeps-alike (e .table) (e .version))) m

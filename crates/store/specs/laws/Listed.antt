@@ -1,7 +1,7 @@
 -- The list of what calls put in and leave: what it keeps of an earlier one, what is found in both, and the numbers that calls give.
 use Prim.Native.Nat.{ℕ, suc, _+_, _≤_}
 use mathlib.Core.Path.{_≡_, refl, sym, ap, _∙_}
-use mathlib.Core.Bool.{Bool, true, false, _&&_, cond, true≢false}
+use mathlib.Core.Bool.{Bool, true, false, not, _&&_, _||_, cond, true≢false}
 use mathlib.Core.List.{List, [], _∷_, _++_, append-assoc, append-nil}
 use native.Mathlib.Omega.{arith}
 use lib.Dec.{eqb, ltb}
@@ -16,38 +16,41 @@ use Rattle.setting.specs.declared.Setting.{Setting}
 use Rattle.store.specs.Saved.{Saved, saved, newest, Found, nothing, just, isNothing, found, isHeld, only}
 use Rattle.store.specs.Kept.{isKept}
 use Rattle.store.specs.Calls.{Reply, refusedWith, doneWith, next, putRefusals, saveRefusals, saveReply, again, returnRefusals, returnReply, keepRefusals, keepReply}
-use Rattle.store.specs.History.{Call, Save, Return, Read, Keep, numberIn, after, afterAll, givenBy, given, listed, Follows, InOrder}
+use Rattle.store.specs.History.{Call, Save, Return, Read, Keep, numberIn, after, afterAll, givenBy, given, keptBy, keptByAll, listed, Follows, InOrder}
 use Rattle.store.specs.laws.Saved.{orElse, or-nothing, found-both, newest-both, above-newest}
 use Rattle.store.specs.laws.Kept.{only-both, only-all, only-twice, found-only, kept-newest}
 
--- what a call leaves, and the numbers that it gives to tables: the list as it was; with a table's next version behind it; or with only some of its versions, the newest of each table among them
-pub data Left (l m : List Saved) (numbers : ℕ → List ℕ) : Type 0 where
-  stays : m ≡ l → ((table : ℕ) → numbers table ≡ []) → Left l m numbers
-  gains : (own : ℕ) (setting : Setting) → m ≡ l ++ saved own (next listed l own) setting ∷ [] → ((table : ℕ) → numbers table ≡ cond (eqb own table) (next listed l own ∷ []) []) → Left l m numbers
-  frees : (keeps : ℕ → ℕ → Bool) → m ≡ only keeps l → ((table : ℕ) → newest table m ≡ newest table l) → ((table : ℕ) → numbers table ≡ []) → Left l m numbers
+-- what a call leaves, with the numbers that it gives to tables and the versions that it keeps: the list as it was; with a table's next version behind it; or with only what is kept, the newest of each table among that
+data Left (l m : List Saved) (numbers : ℕ → List ℕ) (kept : ℕ → ℕ → Bool) : Type 0 where
+  stays : m ≡ l → ((table : ℕ) → numbers table ≡ []) → ((table version : ℕ) → kept table version ≡ true) → Left l m numbers kept
+  gains : (own : ℕ) (setting : Setting) → m ≡ l ++ saved own (next listed l own) setting ∷ [] → ((table : ℕ) → numbers table ≡ cond (eqb own table) (next listed l own ∷ []) []) → ((table version : ℕ) → kept table version ≡ true) → Left l m numbers kept
+  frees : m ≡ only kept l → ((table : ℕ) → numbers table ≡ []) → ((table : ℕ) → newest table m ≡ newest table l) → Left l m numbers kept
 
--- a save or a return to a table, by its reply
-abbrev LeftBy : List Saved → ℕ → Reply (List Saved) → Type 0
-LeftBy l own r = Left l (r .state) (λ table. cond (eqb own table) (numberIn r) [])
+-- a save or a return to a table, by its reply; and a call that makes room
+abbrev PutLeft : List Saved → ℕ → Reply (List Saved) → Type 0
+PutLeft l own r = Left l (r .state) (λ table. cond (eqb own table) (numberIn r) []) (λ table version. true)
 
-turned-away : (l : List Saved) (own k : ℕ) → (k ≡ 0 → ⊥) → LeftBy l own (refusedWith l k)
+abbrev KeepLeft : List Saved → List ℕ → Reply (List Saved) → Type 0
+KeepLeft l list r = Left l (r .state) (λ table. []) (λ table version. not (eqb (r .code) 0) || isKept list l table version)
+
+turned-away : (l : List Saved) (own k : ℕ) → (k ≡ 0 → ⊥) → PutLeft l own (refusedWith l k)
 turned-away l own k n =
-    stays refl (λ table. rw (ne-eqb k 0 n) (elim (tested (eqb own table)) [ holds t ↦ rw t refl | fails t ↦ rw t refl ]))
+    stays refl (λ table. rw (ne-eqb k 0 n) (elim (tested (eqb own table)) [ holds t ↦ rw t refl | fails t ↦ rw t refl ])) (λ table version. refl)
 
-again-left : (l : List Saved) (own : ℕ) (f : Found) → NoneHolds (putRefusals listed l own (isNothing f)) → LeftBy l own (doneWith (next listed l own) (again listed l own f))
+again-left : (l : List Saved) (own : ℕ) (f : Found) → NoneHolds (putRefusals listed l own (isNothing f)) → PutLeft l own (doneWith (next listed l own) (again listed l own f))
 again-left l own nothing none = absurd (true≢false (none .1 .1 .0))
-again-left l own (just setting) none = gains own setting refl (λ table. refl)
+again-left l own (just setting) none = gains own setting refl (λ table. refl) (λ table version. refl)
 
-after-left : (l : List Saved) (c : Call) → Left l (after listed l c) (λ table. givenBy listed table l c)
+after-left : (l : List Saved) (c : Call) → Left l (after listed l c) (λ table. givenBy listed table l c) (keptBy listed l c)
 unfolding saveReply saveRefusals textRefusals returnReply returnRefusals keepReply keepRefusals
 after-left l (Save own text) =
-    outcome-is (saveRefusals listed l own text) (refusedWith l) _ (LeftBy l own) refl (turned-away l own _) (λ none. gains own (settingOf text) refl (λ table. refl))
+    outcome-is (saveRefusals listed l own text) (refusedWith l) _ (PutLeft l own) refl (turned-away l own _) (λ none. gains own (settingOf text) refl (λ table. refl) (λ table version. refl))
 after-left l (Return own version) =
-    outcome-is (returnRefusals listed l own version) (refusedWith l) _ (LeftBy l own) refl (turned-away l own _) (again-left l own (found own version l))
-after-left l (Read own version buffer) = stays refl (λ table. refl)
+    outcome-is (returnRefusals listed l own version) (refusedWith l) _ (PutLeft l own) refl (turned-away l own _) (again-left l own (found own version l))
+after-left l (Read own version buffer) = stays refl (λ table. refl) (λ table version. refl)
 after-left l (Keep list) =
-    outcome-is (keepRefusals listed l list) (refusedWith l) _ (λ r. Left l (r .state) (λ table. [])) refl (λ n. stays refl (λ table. refl))
-    (λ none. frees (isKept list l) refl (λ table. kept-newest list table l) (λ table. refl))
+    outcome-is (keepRefusals listed l list) (refusedWith l) _ (KeepLeft l list) refl (λ n. stays refl (λ table. refl) (λ table version. rw (ne-eqb _ 0 n) refl))
+    (λ none. frees refl (λ table. refl) (λ table. kept-newest list table l))
 
 -- ---- what is kept of an earlier list
 
@@ -62,66 +65,84 @@ found-above own setting l table version h =
       | fails t ↦ rw t refl
     ]
 
-follows-by : {l m : List Saved} {numbers : ℕ → List ℕ} → Left l m numbers → Follows l m
-unfolding found
-follows-by {l} (stays e g) =
-    record { keeps = λ table version. true; more = []; follows = e ∙ sym (append-nil _ ∙ only-all l); above = λ t v h. refl }
-follows-by {l} (gains own setting e g) =
-    record {
-      keeps = λ table version. true;
-      more = saved own (next listed l own) setting ∷ [];
-      follows = e ∙ ap (λ (k : List Saved). k ++ saved own (next listed l own) setting ∷ []) (sym (only-all l));
-      above = found-above own setting l;
-    }
-follows-by {l} (frees keeps e n g) = record { keeps = keeps; more = []; follows = e ∙ sym (append-nil _); above = λ t v h. refl }
+module _ {l m : List Saved} {numbers : ℕ → List ℕ} {kept : ℕ → ℕ → Bool} where
+  follows-by : Left l m numbers kept → Follows kept l m
+  unfolding found
+  follows-by (stays e g k) = record { more = []; follows = e ∙ sym (append-nil (only kept l) ∙ only-all kept k l); above = λ t v h. refl }
+  follows-by (gains own setting e g k) =
+      record {
+        more = saved own (next listed l own) setting ∷ [];
+        follows = e ∙ ap (λ (t : List Saved). t ++ saved own (next listed l own) setting ∷ []) (sym (only-all kept k l));
+        above = found-above own setting l;
+      }
+  follows-by (frees e g n) = record { more = []; follows = e ∙ sym (append-nil (only kept l)); above = λ t v h. refl }
 
-no-less : {l m : List Saved} {numbers : ℕ → List ℕ} → Left l m numbers → (table : ℕ) → newest table l ≤ newest table m
-no-less (stays e g) table = rw e (omega arith)
-no-less {l} (gains own setting e g) table = rw e (omega (arith, newest-both table l (saved own (next listed l own) setting ∷ [])))
-no-less (frees keeps e n g) table = omega (arith, n table)
+  no-less : Left l m numbers kept → (table : ℕ) → newest table l ≤ newest table m
+  no-less (stays e g k) table = rw e (omega arith)
+  no-less (gains own setting e g k) table = rw e (omega (arith, newest-both table l (saved own (next listed l own) setting ∷ [])))
+  no-less (frees e g n) table = omega (arith, n table)
 
 none-either : (b : Bool) → cond b nothing nothing ≡ nothing
 none-either true = refl
 none-either false = refl
 
-follows-on : {k l m : List Saved} → Follows k l → ((table : ℕ) → newest table k ≤ newest table l) → Follows l m → Follows k m
-follows-on {k} {l} {m} a n b =
+follows-on : (p q : ℕ → ℕ → Bool) {k l m : List Saved} → Follows p k l → ((table : ℕ) → newest table k ≤ newest table l) → Follows q l m → Follows (λ table version. p table version && q table version) k m
+follows-on p q {k} {l} {m} a n b =
     record {
-      keeps = λ table version. a .keeps table version && b .keeps table version;
-      more = only (b .keeps) (a .more) ++ b .more;
-      follows = b .follows ∙ rw (a .follows, only-both (b .keeps) (only (a .keeps) k) (a .more), only-twice (a .keeps) (b .keeps) k) (append-assoc (only (λ table version. a .keeps table version && b .keeps table version) k) (only (b .keeps) (a .more)) (b .more));
+      more = only q (a .more) ++ b .more;
+      follows = b .follows ∙ rw (a .follows, only-both q (only p k) (a .more), only-twice p q k) (append-assoc (only (λ table version. p table version && q table version) k) (only q (a .more)) (b .more));
       above = λ t v h.
-          found-both t v (only (b .keeps) (a .more)) (b .more)
-          ∙ rw (found-only (b .keeps) t v (a .more), a .above t v h, none-either (b .keeps t v)) (b .above t v (omega (arith, n t)));
+          found-both t v (only q (a .more)) (b .more)
+          ∙ rw (found-only q t v (a .more), a .above t v h, none-either (q t v)) (b .above t v (omega (arith, n t)));
     }
 
-pub all-follow : (l : List Saved) (cs : List Call) → Follows l (afterAll listed l cs)
-unfolding afterAll
-all-follow l [] = follows-by (stays refl (λ table. refl))
+pub all-follow : (l : List Saved) (cs : List Call) → Follows (keptByAll listed l cs) l (afterAll listed l cs)
+unfolding afterAll keptByAll
+all-follow l [] =
+    let none : Left l l (λ table. []) (keptByAll listed l []) = stays refl (λ table. refl) (λ table version. refl) in
+    follows-by none
 all-follow l (c ∷ cs) =
     let left = after-left l c in
-    follows-on (follows-by left) (no-less left) (all-follow (after listed l c) cs)
+    follows-on (keptBy listed l c) (keptByAll listed (after listed l c) cs) (follows-by left) (no-less left) (all-follow (after listed l c) cs)
 
 -- ---- what is found in both
 
-module _ (table version : ℕ) (l m : List Saved) (f : Follows l m) (low : version ≤ newest table l) where
-  found-later : found table version m ≡ cond (f .keeps table version) (found table version l) nothing
-  found-later =
-      ap (found table version) (f .follows)
-      ∙ found-both table version (only (f .keeps) l) (f .more)
-      ∙ rw (f .above table version low, or-nothing (found table version (only (f .keeps) l))) (found-only (f .keeps) table version l)
+module _ (table version : ℕ) (l : List Saved) (cs : List Call) (low : version ≤ newest table l) where
+  abbrev kept : Bool
+  kept = keptByAll listed l cs table version
 
-  -- a version that is still held is what it was
-  pub still-found : isHeld table version m ≡ true → found table version m ≡ found table version l
+  abbrev later : Found
+  later = found table version (afterAll listed l cs)
+
+  -- a version is what it was, or is gone
+  found-later : later ≡ cond kept (found table version l) nothing
+  found-later =
+      let f = all-follow l cs in
+      ap (found table version) (f .follows)
+      ∙ found-both table version (only (keptByAll listed l cs) l) (f .more)
+      ∙ rw (f .above table version low, or-nothing (found table version (only (keptByAll listed l cs) l))) (found-only (keptByAll listed l cs) table version l)
+
+  pub still-found : isHeld table version (afterAll listed l cs) ≡ true → later ≡ found table version l
   still-found h =
-      elim (tested (f .keeps table version)) [
+      elim (tested kept) [
         | holds t ↦ found-later ∙ rw t refl
         | fails t ↦ absurd (true≢false (sym h ∙ rw (found-later, t) refl))
       ]
 
-  -- and one that is gone stays so
-  pub still-gone : found table version l ≡ nothing → found table version m ≡ nothing
-  still-gone e = found-later ∙ rw (e, none-either (f .keeps table version)) refl
+  -- held while it is kept, and once gone always so
+  pub still-held : isHeld table version l ≡ true → isHeld table version (afterAll listed l cs) ≡ kept
+  still-held h =
+      elim (tested kept) [
+        | holds t ↦
+            let same : later ≡ found table version l = found-later ∙ rw t refl in
+            ap (λ (f : Found). not (isNothing f)) same ∙ h ∙ sym t
+        | fails t ↦
+            let none : later ≡ nothing = found-later ∙ rw t refl in
+            ap (λ (f : Found). not (isNothing f)) none ∙ sym t
+      ]
+
+  pub still-gone : found table version l ≡ nothing → later ≡ nothing
+  still-gone e = found-later ∙ rw (e, none-either kept) refl
 
 -- a version that is held is not above the newest
 pub held-low : (table version : ℕ) (l : List Saved) → isHeld table version l ≡ true → version ≤ newest table l
@@ -149,10 +170,10 @@ one-before n to numbers r =
       are = sym (tabulate-first (r .count) (λ i. n + (i + 1)) ∙ ap (λ (k : List ℕ). (n + 1) ∷ k) (tabulate-alike (r .count) _ _ (λ i. omega arith) ∙ sym (r .are)));
     }
 
-numbers-by : {l m : List Saved} {numbers : ℕ → List ℕ} → Left l m numbers → (table to : ℕ) (rest : List ℕ) → InOrder (newest table m) to rest → InOrder (newest table l) to (numbers table ++ rest)
+numbers-by : {l m : List Saved} {numbers : ℕ → List ℕ} {kept : ℕ → ℕ → Bool} → Left l m numbers kept → (table to : ℕ) (rest : List ℕ) → InOrder (newest table m) to rest → InOrder (newest table l) to (numbers table ++ rest)
 unfolding newest
-numbers-by (stays e g) table to rest r = rw (g table, ← e) r
-numbers-by {l} (gains own setting e g) table to rest r =
+numbers-by (stays e g k) table to rest r = rw (g table, ← e) r
+numbers-by {l} (gains own setting e g k) table to rest r =
     elim (tested (eqb own table)) [
       | holds t ↦
           let same = eqb-true own table t in
@@ -162,7 +183,7 @@ numbers-by {l} (gains own setting e g) table to rest r =
           let none : newest table (l ++ saved own (next listed l own) setting ∷ []) ≡ newest table l = newest-both table l (saved own (next listed l own) setting ∷ []) ∙ rw t (omega arith) in
           rw (g table, t) (rw (e, none) at r)
     ]
-numbers-by (frees keeps e n g) table to rest r = rw (g table, ← n table) r
+numbers-by (frees e g n) table to rest r = rw (g table, ← n table) r
 
 pub all-numbered : (table : ℕ) (l : List Saved) (cs : List Call) → InOrder (newest table l) (newest table (afterAll listed l cs)) (given listed table l cs)
 unfolding afterAll given tabulate

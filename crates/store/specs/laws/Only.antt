@@ -14,7 +14,7 @@ use Rattle.basics.specs.laws.Logic.{tested, holds, fails}
 use Rattle.store.specs.Saved.{Saved, newest, only}
 use Rattle.store.specs.Kept.{isListed, isKept}
 use Rattle.store.specs.Layout.{number, versionIn, tableIn, placeOk, place, storeOk, savedAt, savedBelow, savedOf, isFreed, freePart, onlyBelow, withOnly}
-use Rattle.store.specs.laws.Kept.{keptBy, only-both}
+use Rattle.store.specs.laws.Kept.{only-both}
 use Rattle.store.specs.laws.Layout.{newest-other, held-few, at-place, elsewhere, before-same, with-ok}
 
 -- ---- a free place

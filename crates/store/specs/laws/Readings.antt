@@ -15,10 +15,10 @@ use Rattle.setting.specs.declared.Setting.{Setting}
 use Rattle.store.specs.Saved.{Saved, saved, newest, Found, nothing, just, isNothing, found, isHeld}
 use Rattle.store.specs.Layout.{savedOf}
 use Rattle.store.specs.Calls.{Reply, Storage, bytes, doneWith, refusedWith, next, putRefusals, saveRefusals, saveReply, again, returnRefusals, returnReply, readRefusals, readReply}
-use Rattle.store.specs.History.{Call, afterAll, listed, Holds}
+use Rattle.store.specs.History.{Call, afterAll, keptByAll, listed, Holds}
 use Rattle.store.specs.laws.Calls.{save-done, return-done, read-done}
-use Rattle.store.specs.laws.History.{Agree, save-agree, return-agree, read-same, all-hold}
-use Rattle.store.specs.laws.Listed.{all-follow, still-found, still-gone, held-low, found-next}
+use Rattle.store.specs.laws.History.{Agree, save-agree, return-agree, read-same, all-hold, all-kept}
+use Rattle.store.specs.laws.Listed.{still-found, still-held, still-gone, held-low, found-next}
 
 -- a code of 0 is one of the refusals
 save-accepted : {S : Type 0} (st : Storage S) (s : S) (table : ℕ) (text : List ℕ) → saveReply st s table text .code ≡ 0 → codeOf (saveRefusals st s table text) ≡ 0
@@ -44,15 +44,22 @@ module _ (store : List ℕ) (l : List Saved) (h : Holds store l) (table : ℕ) w
       → readReply bytes (afterAll bytes store cs) table version buffer ≡ readReply bytes store table version buffer
   kept-same version cs buffer old now =
       let later = all-hold store l h cs in
-      let still = still-found table version l (afterAll listed l cs) (all-follow l cs) (held-low table version l old) (sym (held-in later table version) ∙ now) in
+      let still = still-found table version l cs (held-low table version l old) (sym (held-in later table version) ∙ now) in
       read-same (afterAll bytes store cs) (afterAll listed l cs) later table version buffer
       ∙ read-by-found (afterAll listed l cs) l table version version buffer still
       ∙ sym (read-same store l h table version buffer)
 
+  -- how long it is held
+  pub held-same : (version : ℕ) (cs : List Call) → isHeld table version l ≡ true → isHeld table version (savedOf (afterAll bytes store cs)) ≡ keptByAll bytes store cs table version
+  held-same version cs old =
+      held-in (all-hold store l h cs) table version
+      ∙ still-held table version l cs (held-low table version l old) old
+      ∙ sym (all-kept store l h cs table version)
+
   -- a version that is gone
   pub gone-same : (version : ℕ) (cs : List Call) → version ≤ newest table l → found table version l ≡ nothing → found table version (savedOf (afterAll bytes store cs)) ≡ nothing
   gone-same version cs low f =
-      all-hold store l h cs .versions .same-found table version ∙ still-gone table version l (afterAll listed l cs) (all-follow l cs) low f
+      all-hold store l h cs .versions .same-found table version ∙ still-gone table version l cs low f
 
   -- the next version of a table, after a call that put it in and calls that keep it
   module _ (made : List ℕ) (setting : Setting) (g : Holds made (l ++ saved table (next listed l table) setting ∷ [])) (cs : List Call) (buffer : List ℕ)
@@ -66,7 +73,7 @@ module _ (store : List ℕ) (l : List Saved) (h : Holds store l) (table : ℕ) w
     found-made : found table (next listed l table) list ≡ just setting
     found-made =
         let low = held-low table (next listed l table) first (rw (found-next table l setting) refl) in
-        still-found table (next listed l table) first list (all-follow first cs) low (sym (held-in (all-hold made first g cs) table (next listed l table)) ∙ held)
+        still-found table (next listed l table) first cs low (sym (held-in (all-hold made first g cs) table (next listed l table)) ∙ held)
         ∙ found-next table l setting
 
     made-read : readReply bytes (afterAll bytes made cs) table (next listed l table) buffer ≡ readReply listed list table (next listed l table) buffer

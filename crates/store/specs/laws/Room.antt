@@ -1,7 +1,7 @@
 -- Making room: what it leaves in each place, what is found then, and the number of versions gone.
 use Prim.Native.Nat.{ℕ, _+_, _<_}
 use mathlib.Core.Path.{_≡_, refl, sym, ap, _∙_}
-use mathlib.Core.Bool.{Bool, not, cond}
+use mathlib.Core.Bool.{Bool, cond}
 use mathlib.Core.List.{List}
 use native.Mathlib.Omega.{arith}
 use lib.Dec.{eqb}
@@ -11,7 +11,7 @@ use Rattle.basics.specs.laws.Logic.{tested, holds, fails}
 use Rattle.refusals.specs.Refusals.{codeOf}
 use Rattle.refusals.specs.laws.Outcome.{outcome-code}
 use Rattle.store.specs.Saved.{newest, nothing, found, only}
-use Rattle.store.specs.Kept.{isKept}
+use Rattle.store.specs.Kept.{isKept, freedBy}
 use Rattle.store.specs.Layout.{place, savedOf, isFreed, freePart, withOnly}
 use Rattle.store.specs.Calls.{Reply, bytes, refusedWith, doneWith, keepRefusals, keepReply}
 use Rattle.store.specs.laws.Calls.{keep-done, keep-refused}
@@ -34,7 +34,7 @@ module _ (store list : List ℕ) where
       ]
 
   module _ (z : keepReply bytes store list .code ≡ 0) where
-    done : keepReply bytes store list ≡ doneWith (length (only (λ table version. not (keeps table version)) (savedOf store))) (withOnly keeps store)
+    done : keepReply bytes store list ≡ doneWith (freedBy list (savedOf store)) (withOnly keeps store)
     unfolding keepReply
     done = keep-done bytes store list (sym (outcome-code (keepRefusals bytes store list) (refusedWith store) _ (λ r. r .code) (λ k. refl) refl) ∙ z)
 
