@@ -1,12 +1,13 @@
 -- Lists that a loop fills or copies into, element by element.
-use mathlib.Core.Path.{_≡_, refl, sym, _∙_}
+use mathlib.Core.Path.{_≡_, refl, sym, ap, _∙_}
 use mathlib.Core.Bool.{_&&_, cond}
 use mathlib.Core.List.{List, [], _∷_, _++_, map, append-assoc, append-nil}
 use Prim.Native.Nat.{ℕ, zero, suc, _+_, _-_, _≤_, _<_}
+use native.Mathlib.Numerals.{add-one}
 use native.Mathlib.Nat.{le-of-suc-le-suc}
 use native.Mathlib.Omega.{arith}
 use lib.Dec.{leb, ltb, eqb}
-use lib.ListN.{length, getD, set, take, drop, length-map, length-drop, drop-of-length-le}
+use lib.ListN.{length, getD, set, take, drop, replicate, length-map, length-drop, length-replicate, drop-of-length-le}
 use lib.Seq.{getD-set-same, getD-set-other, drop-cons, set-at, take-all, drop-drop}
 use borrow.Author.Tests.{le-leb, le-ltb, lt-ltb, leb-true, ltb-true, ltb-false, eqb-true, eqb-false}
 use Rattle.basics.specs.laws.Logic.{tested, holds, fails}
@@ -24,6 +25,20 @@ getD-there y z (x ∷ l) (suc i) h = getD-there y z l i (le-of-suc-le-suc h)
 -- an element is stored after those before it
 pub filled-more : (g l : List ℕ) (i v : ℕ) → length g ≡ i → i < length l → set (g ++ drop i l) i v ≡ (g ++ v ∷ []) ++ drop (suc i) l
 filled-more g l i v h k = rw (drop-cons l i 0 k, set-at g _ _ v i h, append-assoc)
+
+-- and always the same one
+replicate-next : (n v : ℕ) → replicate n v ++ v ∷ [] ≡ replicate (suc n) v
+replicate-next zero v = refl
+replicate-next (suc n) v = ap (λ (t : List ℕ). v ∷ t) (replicate-next n v)
+
+pub filled-next : (v : ℕ) (l now : List ℕ) (i : ℕ) → i < length l → now ≡ replicate i v ++ drop i l → set now i v ≡ replicate (i + 1) v ++ drop (i + 1) l
+filled-next v l now i h e =
+    rw (e, add-one i, filled-more (replicate i v) l i v (length-replicate i v) h, replicate-next i v) refl
+
+pub filled-all : (v : ℕ) (l now : List ℕ) (i : ℕ) → i ≤ length l → length l ≤ i → now ≡ replicate i v ++ drop i l → now ≡ replicate (length l) v
+filled-all v l now i h k e =
+    let q : i ≡ length l = omega arith in
+    e ∙ rw (drop-of-length-le l {i = i} k, append-nil, q) refl
 
 -- what stands before the rest of the tail at the place stands there in the whole list
 pub tail-back : (l got part : List ℕ) (place n : ℕ) → part ≡ got ++ drop n (take (length l - place) (drop place l)) → take place l ++ (part ++ drop (length l - place) (drop place l)) ≡ take place l ++ got ++ drop (place + n) l

@@ -2,18 +2,17 @@
 use mathlib.Core.Path.{_≡_, refl, ap, _∙_}
 use mathlib.Core.Logic.{⊎-elim}
 use mathlib.Core.Bool.{Bool, true}
-use mathlib.Core.List.{List, [], _∷_, _++_, append-nil}
-use Prim.Native.Nat.{ℕ, zero, suc, _+_, _-_, _*_, _≤_, _<_}
-use native.Mathlib.Numerals.{add-one}
+use mathlib.Core.List.{List, _++_}
+use Prim.Native.Nat.{ℕ, suc, _+_, _-_, _*_, _≤_, _<_}
 use native.Mathlib.Omega.{arith}
 use lib.Dec.{eqb}
-use lib.ListN.{length, getD, set, take, drop, replicate, length-replicate, getD-replicate, drop-of-length-le, List·getD-eq-default}
+use lib.ListN.{length, getD, set, take, drop, getD-replicate, List·getD-eq-default}
 use lib.Seq.{getD-set-same, getD-set-other, set-out}
 use borrow.Author.Tests.{eqb-true, eqb-false}
 use Rattle.basics.specs.Below.{allBelow}
 use Rattle.basics.specs.Parts.{part, withPart}
 use Rattle.basics.specs.laws.Below.{below-at, below-all, below-alike}
-use Rattle.basics.specs.laws.Lists.{getD-there, filled-more}
+use Rattle.basics.specs.laws.Lists.{getD-there}
 use Rattle.basics.specs.laws.Logic.{holds, fails, tested, lt-or-ge}
 use Rattle.basics.specs.laws.Parts.{part-long, part-same, part-other, lent-part, part-back, with-own}
 use Rattle.chip.specs.Kinds.{outputsOf}
@@ -154,26 +153,6 @@ record-lent z b i l u h k = rw (lent-is (b .lit) i l h, lent-is (b .unlit) i u h
 pub fits-lent : (z : Device) (ds : List Device) (lit unlit : List ℕ) (i : ℕ) (l : length lit ≡ 128) (u : length unlit ≡ 128) (h : i < 8) → i < length ds → totalsWithin (outputsOf (getD ds i z .chip)) (lent lit i l h) (lent unlit i u h) 0 ≡ fitsAt ds lit unlit i
 fits-lent z ds lit unlit i l u h k =
     rw (lent-is lit i l h, lent-is unlit i u h, getD-there z none ds i k) refl
-
--- ---- loops
-
--- a part of which the first i numbers are v
-replicate-next : (i v : ℕ) → replicate i v ++ v ∷ [] ≡ replicate (suc i) v
-replicate-next zero v = refl
-replicate-next (suc i) v = ap (λ (t : List ℕ). v ∷ t) (replicate-next i v)
-
-module _ (v : ℕ) (l : List ℕ) (long : length l ≡ 16) where
-  pub filled-none : l ≡ replicate 0 v ++ drop 0 l
-  filled-none = refl
-
-  pub filled-next : (now : List ℕ) (i : ℕ) → i < 16 → now ≡ replicate i v ++ drop i l → set now i v ≡ replicate (i + 1) v ++ drop (i + 1) l
-  filled-next now i h q =
-      rw (q, add-one i, filled-more (replicate i v) l i v (length-replicate i v) (omega arith), replicate-next i v) refl
-
-  pub filled-all : (now : List ℕ) (i : ℕ) → i ≤ 16 → 16 ≤ i → now ≡ replicate i v ++ drop i l → now ≡ replicate 16 v
-  filled-all now i h k q =
-      let m : i ≡ 16 = omega arith in
-      q ∙ rw (m, drop-of-length-le l {i = 16} (omega arith)) (append-nil (replicate 16 v))
 
 -- a device with the totals that it had
 pub with-device-is : (b : Bus) (dev : ℕ) (d : Device) → length (b .lit) ≡ 128 → length (b .unlit) ≡ 128 → withDevice b dev d ≡ withRecord b dev (recordOf d (part 16 dev (b .lit)) (part 16 dev (b .unlit)))

@@ -3,17 +3,16 @@ use Prim.Native.Nat.{ℕ, zero, suc, _+_, _*_, _/_, _^_, _≤_, _<_}
 use mathlib.Core.Path.{_≡_, refl, ap, _∙_}
 use mathlib.Core.Logic.{_⊎_, inl, inr}
 use mathlib.Core.Bool.{Bool, false, _&&_, and-false, and-true}
-use mathlib.Core.List.{List, [], _∷_, _++_, append-nil}
+use mathlib.Core.List.{List}
 use native.Mathlib.Numerals.{add-one}
 use native.Mathlib.Nat.{pow-suc}
 use native.Mathlib.Omega.{arith}
 use lib.Dec.{eqb}
 use borrow.Author.Tests.{eq-eqb, ne-eqb}
-use lib.ListN.{length, take, drop, getD, set, replicate, length-replicate, drop-of-length-le}
+use lib.ListN.{length, take, drop, getD}
 use lib.Seq.{drop-cons, take-suc, take-all}
 use Rattle.basics.specs.First.{all}
 use Rattle.basics.specs.laws.First.{all-behind}
-use Rattle.basics.specs.laws.Lists.{filled-more}
 use Rattle.store.specs.Layout.{number, digits}
 
 number-at : (l : List ℕ) (k n : ℕ) → k < length l → number (take (suc n) (drop k l)) ≡ getD l k 0 + 256 * number (take n (drop (suc k) l))
@@ -41,22 +40,9 @@ digits-long (suc n) x = ap suc (digits-long n (x / 256))
 
 -- ---- zeros, byte by byte
 
-pub zeros-put : (l now : List ℕ) (i : ℕ) → i < length l → now ≡ replicate i 0 ++ drop i l → set now i 0 ≡ replicate (i + 1) 0 ++ drop (i + 1) l
-zeros-put l now i h e =
-    rw (add-one i, e) (filled-more (replicate i 0) l i 0 (length-replicate {A = ℕ} i 0) h ∙ ap (λ (k : List ℕ). k ++ drop (suc i) l) (one-more i))
-  where
-    one-more : (n : ℕ) → _++_ {A = ℕ} (replicate n 0) (0 ∷ []) ≡ replicate (suc n) 0
-    one-more zero = refl
-    one-more (suc n) = ap (λ (k : List ℕ). 0 ∷ k) (one-more n)
-
 zeros-more : (l : List ℕ) (i : ℕ) (b c : Bool) → i < length l → b ≡ all (λ x. eqb x 0) (take i l) → c ≡ (b && eqb (getD l i 0) 0) → c ≡ all (λ x. eqb x 0) (take (i + 1) l)
 zeros-more l i b c h e q =
     q ∙ rw (add-one i, take-suc l i 0 h, all-behind (λ (x : ℕ). eqb x 0) (take i l) (getD l i 0), e) refl
-
-pub zeros-all : (l now : List ℕ) (i : ℕ) → i ≤ length l → length l ≤ i → now ≡ replicate i 0 ++ drop i l → now ≡ replicate (length l) 0
-zeros-all l now i h k e =
-    let q : i ≡ length l = omega arith in
-    e ∙ rw (drop-of-length-le l {i = i} k, append-nil, q) refl
 
 pub zeros-next : (l : List ℕ) (i : ℕ) (b c : Bool) → i < length l → b ≡ all (λ x. eqb x 0) (take i l) → ((getD l i 0 ≡ 0 → ⊥) × (c ≡ false)) ⊎ ((getD l i 0 ≡ 0) × (c ≡ b)) → c ≡ all (λ x. eqb x 0) (take (i + 1) l)
 zeros-next l i b c h e (inl q) = zeros-more l i b c h e (q .1 ∙ rw (ne-eqb (getD l i 0) 0 (q .0), and-false b) refl)

@@ -7,7 +7,7 @@ use lib.ListN.{getD, replicate, length-replicate}
 use Rattle.basics.specs.Parts.{part}
 use Rattle.basics.specs.laws.Below.{below-all}
 use Rattle.basics.specs.laws.Tabulate.{tabulated-below}
-use Rattle.store.specs.Layout.{storeSize, number, placeOk, place, storeOk, savedBelow, freshStore}
+use Rattle.store.specs.Layout.{storeSize, placeOk, place, storeOk, savedBelow, freshStore}
 use Rattle.store.specs.laws.Layout.{right-size}
 use Rattle.store.specs.laws.Only.{free-ok, free-empty}
 

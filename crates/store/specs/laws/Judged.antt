@@ -7,7 +7,7 @@ use native.Mathlib.Nat.{zero-add}
 use native.Mathlib.Omega.{arith}
 use lib.Dec.{leb, ltb}
 use lib.ListN.{length, take, drop}
-use borrow.Author.Tests.{le-leb, lt-leb, lt-ltb, le-ltb, leb-true, leb-false, ltb-true, ltb-false, not-false}
+use borrow.Author.Tests.{lt-ltb, le-ltb, leb-true, leb-false, ltb-false, not-false}
 use Rattle.basics.specs.laws.Logic.{tested, holds, fails}
 use Rattle.basics.specs.Parts.{withPart}
 use Rattle.refusals.specs.Refusals.{Refusal, refuse, least, numberOf, codeOf}

@@ -1,5 +1,5 @@
 -- Lists with only the versions that a test keeps: what is found in them, the newest of a table, how many there are.
-use Prim.Native.Nat.{ℕ, max, _+_, _≤_, _<_}
+use Prim.Native.Nat.{ℕ, max, _+_, _≤_}
 use mathlib.Core.Path.{_≡_, refl, sym, ap, _∙_}
 use mathlib.Core.Bool.{Bool, true, not, _&&_, _||_, cond}
 use mathlib.Core.List.{List, [], _∷_, _++_}
@@ -9,7 +9,7 @@ use lib.ListN.{length}
 use borrow.Author.Tests.{eqb-true, eqb-false, eq-eqb, ltb-true, ltb-false}
 use Rattle.basics.specs.laws.Below.{below-alike}
 use Rattle.basics.specs.laws.Logic.{tested, holds, fails, and-left, and-right}
-use Rattle.store.specs.Saved.{Saved, newest, Found, nothing, just, isNothing, found, only}
+use Rattle.store.specs.Saved.{Saved, newest, Found, nothing, isNothing, found, only}
 use Rattle.store.specs.Kept.{tableAt, versionAt, pairs, isListed, allHeld, isKept, freedBy}
 use Rattle.store.specs.History.{many, Alike}
 

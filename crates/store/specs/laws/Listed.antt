@@ -17,7 +17,7 @@ use Rattle.store.specs.Saved.{Saved, saved, newest, Found, nothing, just
 use Rattle.store.specs.Kept.{isKept}
 use Rattle.store.specs.Calls.{Reply, refusedWith, doneWith, next, putRefusals, saveRefusals, saveReply, again, returnRefusals, returnReply, keepRefusals, keepReply}
 use Rattle.store.specs.History.{Call, Save, Return, Read, Keep, numberIn, after, afterAll, givenBy, given, keptBy, keptByAll, listed, Follows, InOrder}
-use Rattle.store.specs.laws.Saved.{orElse, or-nothing, found-both, newest-both, above-newest}
+use Rattle.store.specs.laws.Saved.{or-nothing, found-both, newest-both, above-newest}
 use Rattle.store.specs.laws.Kept.{only-both, only-all, only-twice, found-only, kept-newest}
 
 -- what a call leaves, with the numbers that it gives to tables and the versions that it keeps: the list as it was; with a table's next version behind it; or with only what is kept, the newest of each table among that

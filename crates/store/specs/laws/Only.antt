@@ -1,19 +1,19 @@
 -- A store with only the versions that a test keeps: its places, its shape, what it holds, and how a loop over the places makes it.
 use Prim.Native.Nat.{ℕ, zero, suc, max, _+_, _≤_, _<_}
 use mathlib.Core.Path.{_≡_, refl, sym, ap, _∙_}
-use mathlib.Core.Bool.{Bool, true, false, not, _&&_, _||_, cond}
-use mathlib.Core.List.{List, [], _∷_, _++_, append-nil}
+use mathlib.Core.Bool.{Bool, true, false, not, _||_, cond}
+use mathlib.Core.List.{List, [], _++_}
 use native.Mathlib.Numerals.{add-one}
 use native.Mathlib.Omega.{arith}
 use lib.Dec.{eqb}
-use lib.ListN.{length, getD, set, replicate, length-append}
+use lib.ListN.{length, getD, set, length-append}
 use lib.Seq.{getD-set-same, getD-set-other}
 use borrow.Author.Tests.{eq-eqb, ne-eqb, eqb-true, eqb-false}
 use Rattle.basics.specs.Parts.{withPart}
 use Rattle.basics.specs.laws.Logic.{tested, holds, fails}
 use Rattle.store.specs.Saved.{Saved, newest, only}
 use Rattle.store.specs.Kept.{isListed, isKept}
-use Rattle.store.specs.Layout.{number, versionIn, tableIn, placeOk, place, storeOk, savedAt, savedBelow, savedOf, isFreed, freePart, onlyBelow, withOnly}
+use Rattle.store.specs.Layout.{number, versionIn, tableIn, placeOk, place, storeOk, savedAt, savedBelow, savedOf, isFreed, freePart, onlyBelow}
 use Rattle.store.specs.laws.Kept.{only-both}
 use Rattle.store.specs.laws.Layout.{newest-other, held-few, at-place, elsewhere, before-same, with-ok}
 

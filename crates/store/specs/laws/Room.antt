@@ -1,6 +1,6 @@
 -- Making room: what it leaves in each place, what is found then, and the number of versions gone.
 use Prim.Native.Nat.{ℕ, _+_, _<_}
-use mathlib.Core.Path.{_≡_, refl, sym, ap, _∙_}
+use mathlib.Core.Path.{_≡_, refl, sym, _∙_}
 use mathlib.Core.Bool.{Bool, cond}
 use mathlib.Core.List.{List}
 use native.Mathlib.Omega.{arith}
@@ -13,7 +13,7 @@ use Rattle.refusals.specs.laws.Outcome.{outcome-code}
 use Rattle.store.specs.Saved.{newest, nothing, found, only}
 use Rattle.store.specs.Kept.{isKept, freedBy}
 use Rattle.store.specs.Layout.{place, savedOf, isFreed, freePart, withOnly}
-use Rattle.store.specs.Calls.{Reply, bytes, refusedWith, doneWith, keepRefusals, keepReply}
+use Rattle.store.specs.Calls.{bytes, refusedWith, doneWith, keepRefusals, keepReply}
 use Rattle.store.specs.laws.Calls.{keep-done, keep-refused}
 use Rattle.store.specs.laws.Kept.{found-only, both-long, kept-newest}
 use Rattle.store.specs.laws.Only.{place-left, left-holds}

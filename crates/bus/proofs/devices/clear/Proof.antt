@@ -1,9 +1,11 @@
 -- The loop: the first i numbers are 0.
-use Prim.Native.Nat.{_-_, _≤_}
-use mathlib.Core.Path.{_≡_, sym, _∙_}
+use Prim.Native.Nat.{ℕ, _-_, _≤_}
+use mathlib.Core.Path.{_≡_, refl, sym, ap, _∙_}
+use native.Mathlib.Omega.{arith}
 use mathlib.Core.List.{_++_}
+use denote.Ref.{now}
 use lib.ListN.{length, drop, replicate}
-use Rattle.bus.specs.laws.Records.{filled-none, filled-next, filled-all}
+use Rattle.basics.specs.laws.Lists.{filled-next, filled-all}
 use borrow.Author.Needs.{needs}
 use Rattle.bus.proofs.devices.clear.Statement.{statement}
 use Rattle.bus.proofs.devices.clear.Tie as tie
@@ -15,16 +17,19 @@ abbrev μ-loop : tie.MeasureT-loop
 μ-loop part₀ i₀ part i = 16 - i
 
 loop-holds : tie.Need-loop-holds Inv-loop μ-loop
-loop-holds c = (search needs, filled-none 0 _ (c .pre), c .pre)
+loop-holds c = (search needs, refl, c .pre)
 
 loop-again : tie.Need-loop-again Inv-loop μ-loop
-loop-again c = let l = c .before .loop in (search needs, filled-next 0 _ (c .before .before .pre) _ _ (search needs) (l .inv .1), search needs)
+loop-again c = let l = c .before .loop in (search needs, filled-next 0 _ _ _ (omega (arith, c .before .before .pre, c .loop-test .taken)) (l .inv .1), search needs)
 
 same-length : tie.Need-same-length Inv-loop μ-loop
 same-length c = c .before .loop .inv .2 ∙ sym (c .before .before .pre)
 
 returns : tie.Need-returns Inv-loop μ-loop
-returns c = filled-all 0 _ (c .before .before .pre) _ _ (c .before .loop .inv .0) (c .loop-test .left) (c .before .loop .inv .1)
+returns c =
+    let long = c .before .before .pre in
+    let l = c .before .loop in
+    filled-all 0 (now (c .before .before .args .part)) (l .part) (l .i) (omega (arith, long, l .inv .0)) (omega (arith, long, c .loop-test .left)) (l .inv .1) ∙ ap (λ (n : ℕ). replicate n 0) long
 
 pub clear-spec : {M : Type 1} → statement M
 clear-spec = tie.close (tie.spec Inv-loop μ-loop loop-holds (λ c. search needs) (λ c. search needs) (λ c. search needs) (λ c. search needs) loop-again same-length returns)

@@ -5,7 +5,7 @@ use mathlib.Core.List.{_++_}
 use native.Mathlib.Omega.{arith}
 use denote.Ref.{now}
 use lib.ListN.{length, drop, replicate, length-set}
-use Rattle.store.specs.laws.Bytes.{zeros-put, zeros-all}
+use Rattle.basics.specs.laws.Lists.{filled-next, filled-all}
 use borrow.Author.Needs.{needs}
 use Rattle.store.proofs.bytes.clear.Statement.{statement}
 use Rattle.store.proofs.bytes.clear.Tie as tie
@@ -20,7 +20,7 @@ loop-again : tie.Need-loop-again Inv-loop μ-loop
 loop-again c =
     let l = c .before in
     let s = now (l .before .args .part) in
-    (search needs, zeros-put s (l .loop .part) (l .loop .at) (omega (arith, c .loop-test .taken, l .loop .inv .2)) (l .loop .inv .1), simp length-set (l .loop .inv .2))
+    (search needs, filled-next 0 s (l .loop .part) (l .loop .at) (omega (arith, c .loop-test .taken, l .loop .inv .2)) (l .loop .inv .1), simp length-set (l .loop .inv .2))
 
 same-length : tie.Need-same-length Inv-loop μ-loop
 same-length c = c .before .loop .inv .2
@@ -29,7 +29,7 @@ returns : tie.Need-returns Inv-loop μ-loop
 returns c =
     let l = c .before in
     let s = now (l .before .args .part) in
-    zeros-all s (l .loop .part) (l .loop .at) (l .loop .inv .0) (omega (arith, c .loop-test .left, l .loop .inv .2)) (l .loop .inv .1)
+    filled-all 0 s (l .loop .part) (l .loop .at) (l .loop .inv .0) (omega (arith, c .loop-test .left, l .loop .inv .2)) (l .loop .inv .1)
 
 pub clear-spec : {M : Type 1} → statement M
 clear-spec =

@@ -1,9 +1,6 @@
 -- `fresh`: refused by the size; else every byte is 0.
-use mathlib.Core.Path.{sym, ap, _∙_}
-use mathlib.Core.List.{List}
-use Prim.Native.Nat.{ℕ}
+use mathlib.Core.Path.{sym}
 use denote.Ref.{now}
-use lib.ListN.{replicate}
 use Rattle.store.specs.laws.Calls.{fresh-refused, fresh-done}
 use borrow.Author.Needs.{needs}
 use Rattle.store.proofs.calls.fresh.Statement.{statement}

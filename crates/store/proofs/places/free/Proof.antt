@@ -1,5 +1,5 @@
 -- `free`: the place is lent, cleared and given back.
-use mathlib.Core.Path.{refl, ap, _∙_}
+use mathlib.Core.Path.{refl}
 use denote.Ref.{now}
 use Rattle.store.specs.Layout.{freePart}
 use Rattle.store.specs.laws.Layout.{lent-long, place-back}
