@@ -23,6 +23,9 @@ fn a_table_goes_back() -> Result<(), lamptwin::Refused> {
     let mut text = [0; lamptwin::SETTING_ROOM];
     let length = lamptwin::store_read(&store, 12, 2, &mut text)?;
     assert_eq!(&text[..length], board);
+    assert_eq!(lamptwin::store_keep(&mut store, &[]), Ok(1));
+    assert_eq!(lamptwin::store_save(&mut store, 12, board), Ok(3));
+    assert_eq!(lamptwin::store_keep(&mut store, &[12, 2]), Ok(0));
     Ok(())
 }
 
