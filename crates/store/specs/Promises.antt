@@ -1,4 +1,4 @@
--- Promises on the store: the number of a refusal and what it leaves, the shape of a store, and what any sequence of calls puts in and reads.
+-- Promises on the store: the number of a refusal and what it leaves, the shape of a store, what making room keeps, and what any sequence of calls puts in, keeps and reads.
 -- Where a statement is over a storage `st`, it holds of the bytes of a store and of a list of versions alike.
 use Prim.Native.Nat.{ℕ, _+_, _^_, _≤_, _<_}
 use mathlib.Core.Path.{_≡_, refl, ap, _∙_}
@@ -116,30 +116,29 @@ module _ (store list : List ℕ) where
 
 -- ---- any sequence of calls
 
--- from a fresh store on, the store holds exactly what the calls put in
+-- from a fresh store on, the store holds exactly what the calls put in and kept
 pub history : (cs : List Call) → Holds (afterAll bytes freshStore cs) (afterAll listed [] cs)
 history cs = all-hold freshStore [] fresh-holds cs
 
 -- and each further call has the answer that the list gives
-module _ (cs : List Call) (table : ℕ) where
+module _ (cs : List Call) where
   abbrev store : List ℕ
   store = afterAll bytes freshStore cs
 
   abbrev list : List Saved
   list = afterAll listed [] cs
 
-  pub save-answer : (text : List ℕ) → (saveReply bytes store table text .code ≡ saveReply listed list table text .code) × (saveReply bytes store table text .value ≡ saveReply listed list table text .value)
-  save-answer text = let a = save-agree store list (history cs) table text in (a .same-code, a .same-value)
+  pub save-answer : (table : ℕ) (text : List ℕ) → (saveReply bytes store table text .code ≡ saveReply listed list table text .code) × (saveReply bytes store table text .value ≡ saveReply listed list table text .value)
+  save-answer table text = let a = save-agree store list (history cs) table text in (a .same-code, a .same-value)
 
-  pub return-answer : (version : ℕ) → (returnReply bytes store table version .code ≡ returnReply listed list table version .code) × (returnReply bytes store table version .value ≡ returnReply listed list table version .value)
-  return-answer version = let a = return-agree store list (history cs) table version in (a .same-code, a .same-value)
+  pub return-answer : (table version : ℕ) → (returnReply bytes store table version .code ≡ returnReply listed list table version .code) × (returnReply bytes store table version .value ≡ returnReply listed list table version .value)
+  return-answer table version = let a = return-agree store list (history cs) table version in (a .same-code, a .same-value)
 
-  pub read-answer : (version : ℕ) (buffer : List ℕ) → readReply bytes store table version buffer ≡ readReply listed list table version buffer
-  read-answer version buffer = read-same store list (history cs) table version buffer
+  pub read-answer : (table version : ℕ) (buffer : List ℕ) → readReply bytes store table version buffer ≡ readReply listed list table version buffer
+  read-answer table version buffer = read-same store list (history cs) table version buffer
 
-pub keep-answer : (cs : List Call) (list : List ℕ)
-    → (keepReply bytes (afterAll bytes freshStore cs) list .code ≡ keepReply listed (afterAll listed [] cs) list .code) × (keepReply bytes (afterAll bytes freshStore cs) list .value ≡ keepReply listed (afterAll listed [] cs) list .value)
-keep-answer cs list = let a = keep-agree (afterAll bytes freshStore cs) (afterAll listed [] cs) (history cs) list in (a .same-code, a .same-value)
+  pub keep-answer : (named : List ℕ) → (keepReply bytes store named .code ≡ keepReply listed list named .code) × (keepReply bytes store named .value ≡ keepReply listed list named .value)
+  keep-answer named = let a = keep-agree store list (history cs) named in (a .same-code, a .same-value)
 
 -- what the list held is there as it was where all calls keep it, and what it gains has higher numbers
 pub list-follows : (l : List Saved) (cs : List Call) → Follows (keptByAll listed l cs) l (afterAll listed l cs)

@@ -26,6 +26,7 @@ fn is_pair(list: &[u64], i: usize, table: u64, version: u64) -> bool
     }
 }
 
+// Whether a version is listed, and whether all that are listed are held.
 fn is_listed(list: &[u64], table: u64, version: u64) -> bool
     ensures { λ r. ⌜ r ≡ isListed (now (list .entry)) table version ⌝ }
 {
@@ -92,6 +93,7 @@ fn newest_of_each(store: &[u8]) -> [u64; 64]
     greatest
 }
 
+// The number in such a row, 0 past its end.
 fn at_table(greatest: &[u64], table: u64) -> u64
     ensures { λ r. ⌜ r ≡ getD (now (greatest .entry)) table 0 ⌝ }
 {
