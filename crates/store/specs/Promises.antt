@@ -2,7 +2,7 @@
 -- Where a statement is over a storage `st`, it holds of the bytes of a store and of a list of versions alike.
 use Prim.Native.Nat.{ℕ, _+_, _^_, _≤_, _<_}
 use mathlib.Core.Path.{_≡_, refl, ap, _∙_}
-use mathlib.Core.Bool.{true, cond}
+use mathlib.Core.Bool.{true, false, cond}
 use mathlib.Core.List.{List, [], _∷_, _++_}
 use lib.Dec.{leb}
 use lib.ListN.{length, drop}
@@ -16,12 +16,12 @@ use Rattle.store.specs.Saved.{Saved, newest, nothing, found, isHeld}
 use Rattle.store.specs.Kept.{isKept}
 use Rattle.store.specs.Layout.{place, storeOk, savedOf, freePlace, withSaved, isFreed, freePart, freshStore}
 use Rattle.store.specs.Calls.{Storage, bytes, refusedWith, doneWith, next, putRefusals, saveRefusals, saveReply, returnRefusals, returnReply, readRefusals, readReply, keepRefusals, keepReply, freshRefusals, freshReply}
-use Rattle.store.specs.History.{Call, Save, Return, after, afterAll, given, keptByAll, listed, Holds, Follows, InOrder}
+use Rattle.store.specs.History.{Call, Save, Return, Keep, after, afterAll, given, keptByAll, listed, Holds, Follows, InOrder}
 use Rattle.store.specs.laws.Fresh.{fresh-ok, fresh-holds-nothing}
 use Rattle.store.specs.laws.Calls.{read-missing, return-missing}
 use Rattle.store.specs.laws.History.{save-agree, return-agree, read-same, keep-agree, after-holds, all-hold, all-given}
 use Rattle.store.specs.laws.Listed.{all-follow, all-numbered, from-one}
-use Rattle.store.specs.laws.Readings.{saved-text, returned-same, kept-same, held-same, gone-same}
+use Rattle.store.specs.laws.Readings.{own, saved-text, returned-same, kept-same, held-same, freed-same}
 use Rattle.store.specs.laws.Room.{newest-stays, place-kept, found-kept, value-gone}
 
 -- ---- the number of a refusal, and what it leaves
@@ -77,10 +77,6 @@ unfolding freshReply
 fresh-refusal buffer = outcome-refused (freshRefusals buffer) (refusedWith buffer) _ (λ r. r .code) (λ k. refl) refl
 
 -- ---- the shape of a store
-
--- a store of the right shape holds what its places say
-own : (store : List ℕ) → storeOk store ≡ true → Holds store (savedOf store)
-own store ok = record { shape = ok; versions = record { same-found = λ t v. refl; same-newest = λ t. refl; same-many = λ p. refl } }
 
 -- a fresh store is of the right shape, and holds nothing
 pub fresh-holds : Holds freshStore []
@@ -155,34 +151,37 @@ module _ (store : List ℕ) (ok : storeOk store ≡ true) (table : ℕ) where
   pub held-while : (version : ℕ) (cs : List Call) → isHeld table version (savedOf store) ≡ true → isHeld table version (savedOf (afterAll bytes store cs)) ≡ keptByAll bytes store cs table version
   held-while version cs old = held-same store (savedOf store) (own store ok) table version cs old
 
-  -- what a save took in is read back, byte by byte, whatever calls come between, while it is held
+  -- what a save took in is read back, byte by byte, whatever calls come between, if they keep it
   pub saved-read : (text : List ℕ) (cs : List Call) (buffer : List ℕ) → saveReply bytes store table text .code ≡ 0 → length text ≤ length buffer
-      → isHeld table (saveReply bytes store table text .value) (savedOf (afterAll bytes store (Save table text ∷ cs))) ≡ true
+      → keptByAll bytes (saveReply bytes store table text .state) cs table (saveReply bytes store table text .value) ≡ true
       → readReply bytes (afterAll bytes store (Save table text ∷ cs)) table (saveReply bytes store table text .value) buffer ≡ doneWith (length text) (text ++ drop (length text) buffer)
   unfolding afterAll
-  saved-read text cs buffer z k held = saved-text store (savedOf store) (own store ok) table text cs buffer z k held
+  saved-read text cs buffer z k kept = saved-text store (savedOf store) (own store ok) table text cs buffer z k kept
 
   -- the version that a return made reads as the one that it went back to
   pub returned-read : (version : ℕ) (cs : List Call) (buffer : List ℕ) → returnReply bytes store table version .code ≡ 0
-      → isHeld table (returnReply bytes store table version .value) (savedOf (afterAll bytes store (Return table version ∷ cs))) ≡ true
+      → keptByAll bytes (returnReply bytes store table version .state) cs table (returnReply bytes store table version .value) ≡ true
       → readReply bytes (afterAll bytes store (Return table version ∷ cs)) table (returnReply bytes store table version .value) buffer ≡ readReply bytes store table version buffer
   unfolding afterAll
-  returned-read version cs buffer z held = returned-same store (savedOf store) (own store ok) table version cs buffer z held
+  returned-read version cs buffer z kept = returned-same store (savedOf store) (own store ok) table version cs buffer z kept
 
-  -- a version that was held and is held reads the same
-  pub kept-read : (version : ℕ) (cs : List Call) (buffer : List ℕ) → isHeld table version (savedOf store) ≡ true → isHeld table version (savedOf (afterAll bytes store cs)) ≡ true
+  -- a version that was held and is kept reads the same
+  pub kept-read : (version : ℕ) (cs : List Call) (buffer : List ℕ) → isHeld table version (savedOf store) ≡ true → keptByAll bytes store cs table version ≡ true
       → readReply bytes (afterAll bytes store cs) table version buffer ≡ readReply bytes store table version buffer
-  kept-read version cs buffer old now = kept-same store (savedOf store) (own store ok) table version cs buffer old now
+  kept-read version cs buffer old kept = kept-same store (savedOf store) (own store ok) table version cs buffer old kept
 
-  -- a version that is gone is never read or gone back to again
-  module _ (version : ℕ) (low : version ≤ newest table (savedOf store)) (gone : found table version (savedOf store) ≡ nothing) (cs : List Call) where
-    pub gone-read : (buffer : List ℕ) → readReply bytes (afterAll bytes store cs) table version buffer ≡ refusedWith buffer 11
-    gone-read buffer =
-        read-missing bytes (afterAll bytes store cs) table version buffer (all-hold store (savedOf store) (own store ok) cs .shape) (gone-same store (savedOf store) (own store ok) table version cs low gone)
+  -- a version that is freed is never read or gone back to again
+  pub freed-read : (version : ℕ) (list : List ℕ) (cs : List Call) (buffer : List ℕ) → keepReply bytes store list .code ≡ 0 → isHeld table version (savedOf store) ≡ true → isKept list (savedOf store) table version ≡ false
+      → readReply bytes (afterAll bytes store (Keep list ∷ cs)) table version buffer ≡ refusedWith buffer 11
+  unfolding afterAll
+  freed-read version list cs buffer z held freed =
+      read-missing bytes _ table version buffer (all-hold store (savedOf store) (own store ok) (Keep list ∷ cs) .shape) (freed-same store ok table version list cs z held freed)
 
-    pub gone-return : next bytes (afterAll bytes store cs) table ≤ 2 ^ 48 → returnReply bytes (afterAll bytes store cs) table version ≡ refusedWith (afterAll bytes store cs) 11
-    gone-return few =
-        return-missing bytes (afterAll bytes store cs) table version (all-hold store (savedOf store) (own store ok) cs .shape) few (gone-same store (savedOf store) (own store ok) table version cs low gone)
+  pub freed-return : (version : ℕ) (list : List ℕ) (cs : List Call) → keepReply bytes store list .code ≡ 0 → isHeld table version (savedOf store) ≡ true → isKept list (savedOf store) table version ≡ false
+      → next bytes (afterAll bytes store (Keep list ∷ cs)) table ≤ 2 ^ 48 → returnReply bytes (afterAll bytes store (Keep list ∷ cs)) table version ≡ refusedWith (afterAll bytes store (Keep list ∷ cs)) 11
+  unfolding afterAll
+  freed-return version list cs z held freed few =
+      return-missing bytes _ table version (all-hold store (savedOf store) (own store ok) (Keep list ∷ cs) .shape) few (freed-same store ok table version list cs z held freed)
 
 -- from a fresh store on the numbers are 1, 2, 3, ..
 pub versions-in-order : (cs : List Call) (table : ℕ) → given bytes table freshStore cs ≡ tabulate (newest table (savedOf (afterAll bytes freshStore cs))) (λ i. i + 1)

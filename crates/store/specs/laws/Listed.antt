@@ -122,20 +122,15 @@ module _ (table version : ℕ) (l : List Saved) (cs : List Call) (low : version 
       ∙ found-both table version (only (keptByAll listed l cs) l) (f .more)
       ∙ rw (f .above table version low, or-nothing (found table version (only (keptByAll listed l cs) l))) (found-only (keptByAll listed l cs) table version l)
 
-  pub still-found : isHeld table version (afterAll listed l cs) ≡ true → later ≡ found table version l
-  still-found h =
-      elim (tested kept) [
-        | holds t ↦ found-later ∙ rw t refl
-        | fails t ↦ absurd (true≢false (sym h ∙ rw (found-later, t) refl))
-      ]
+  pub still-found : kept ≡ true → later ≡ found table version l
+  still-found t = found-later ∙ rw t refl
 
   -- held while it is kept, and once gone always so
   pub still-held : isHeld table version l ≡ true → isHeld table version (afterAll listed l cs) ≡ kept
   still-held h =
       elim (tested kept) [
         | holds t ↦
-            let same : later ≡ found table version l = found-later ∙ rw t refl in
-            ap (λ (f : Found). not (isNothing f)) same ∙ h ∙ sym t
+            ap (λ (f : Found). not (isNothing f)) (still-found t) ∙ h ∙ sym t
         | fails t ↦
             let none : later ≡ nothing = found-later ∙ rw t refl in
             ap (λ (f : Found). not (isNothing f)) none ∙ sym t

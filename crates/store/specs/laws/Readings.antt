@@ -13,11 +13,13 @@ use Rattle.setting.specs.Setting.{settingText}
 use Rattle.setting.specs.Promises.{read-setting}
 use Rattle.setting.specs.declared.Setting.{Setting}
 use Rattle.store.specs.Saved.{Saved, saved, newest, Found, nothing, just, isNothing, found, isHeld}
-use Rattle.store.specs.Layout.{savedOf}
-use Rattle.store.specs.Calls.{Reply, Storage, bytes, doneWith, refusedWith, next, putRefusals, saveRefusals, saveReply, again, returnRefusals, returnReply, readRefusals, readReply}
+use Rattle.store.specs.Kept.{isKept}
+use Rattle.store.specs.Layout.{storeOk, savedOf}
+use Rattle.store.specs.Calls.{Reply, Storage, bytes, doneWith, refusedWith, next, putRefusals, saveRefusals, saveReply, again, returnRefusals, returnReply, readRefusals, readReply, keepReply}
 use Rattle.store.specs.History.{Call, afterAll, keptByAll, listed, Holds}
 use Rattle.store.specs.laws.Calls.{save-done, return-done, read-done}
-use Rattle.store.specs.laws.History.{Agree, save-agree, return-agree, read-same, all-hold, all-kept}
+use Rattle.store.specs.laws.History.{Agree, save-agree, return-agree, read-same, keep-agree, all-hold, all-kept}
+use Rattle.store.specs.laws.Room.{newest-stays, found-kept}
 use Rattle.store.specs.laws.Listed.{still-found, still-held, still-gone, held-low, found-next}
 
 -- a code of 0 is one of the refusals
@@ -38,14 +40,17 @@ read-by-found l m table v w buffer e = rw e refl
 held-in : {store : List ℕ} {l : List Saved} → Holds store l → (table version : ℕ) → isHeld table version (savedOf store) ≡ isHeld table version l
 held-in h table version = ap (λ (f : Found). not (isNothing f)) (h .versions .same-found table version)
 
+-- a store of the right shape holds what its places say
+pub own : (store : List ℕ) → storeOk store ≡ true → Holds store (savedOf store)
+own store ok = record { shape = ok; versions = record { same-found = λ t v. refl; same-newest = λ t. refl; same-many = λ p. refl } }
+
 module _ (store : List ℕ) (l : List Saved) (h : Holds store l) (table : ℕ) where
-  -- a version that was held and is held
-  pub kept-same : (version : ℕ) (cs : List Call) (buffer : List ℕ) → isHeld table version l ≡ true → isHeld table version (savedOf (afterAll bytes store cs)) ≡ true
+  -- a version that was held and is kept
+  pub kept-same : (version : ℕ) (cs : List Call) (buffer : List ℕ) → isHeld table version l ≡ true → keptByAll bytes store cs table version ≡ true
       → readReply bytes (afterAll bytes store cs) table version buffer ≡ readReply bytes store table version buffer
-  kept-same version cs buffer old now =
-      let later = all-hold store l h cs in
-      let still = still-found table version l cs (held-low table version l old) (sym (held-in later table version) ∙ now) in
-      read-same (afterAll bytes store cs) (afterAll listed l cs) later table version buffer
+  kept-same version cs buffer old kept =
+      let still = still-found table version l cs (held-low table version l old) (sym (all-kept store l h cs table version) ∙ kept) in
+      read-same (afterAll bytes store cs) (afterAll listed l cs) (all-hold store l h cs) table version buffer
       ∙ read-by-found (afterAll listed l cs) l table version version buffer still
       ∙ sym (read-same store l h table version buffer)
 
@@ -57,13 +62,13 @@ module _ (store : List ℕ) (l : List Saved) (h : Holds store l) (table : ℕ) w
       ∙ sym (all-kept store l h cs table version)
 
   -- a version that is gone
-  pub gone-same : (version : ℕ) (cs : List Call) → version ≤ newest table l → found table version l ≡ nothing → found table version (savedOf (afterAll bytes store cs)) ≡ nothing
+  gone-same : (version : ℕ) (cs : List Call) → version ≤ newest table l → found table version l ≡ nothing → found table version (savedOf (afterAll bytes store cs)) ≡ nothing
   gone-same version cs low f =
       all-hold store l h cs .versions .same-found table version ∙ still-gone table version l cs low f
 
   -- the next version of a table, after a call that put it in and calls that keep it
   module _ (made : List ℕ) (setting : Setting) (g : Holds made (l ++ saved table (next listed l table) setting ∷ [])) (cs : List Call) (buffer : List ℕ)
-      (held : isHeld table (next listed l table) (savedOf (afterAll bytes made cs)) ≡ true) where
+      (kept : keptByAll bytes made cs table (next listed l table) ≡ true) where
     abbrev first : List Saved
     first = l ++ saved table (next listed l table) setting ∷ []
 
@@ -73,7 +78,7 @@ module _ (store : List ℕ) (l : List Saved) (h : Holds store l) (table : ℕ) w
     found-made : found table (next listed l table) list ≡ just setting
     found-made =
         let low = held-low table (next listed l table) first (rw (found-next table l setting) refl) in
-        still-found table (next listed l table) first cs low (sym (held-in (all-hold made first g cs) table (next listed l table)) ∙ held)
+        still-found table (next listed l table) first cs low (sym (all-kept made first g cs table (next listed l table)) ∙ kept)
         ∙ found-next table l setting
 
     made-read : readReply bytes (afterAll bytes made cs) table (next listed l table) buffer ≡ readReply listed list table (next listed l table) buffer
@@ -91,10 +96,10 @@ module _ (store : List ℕ) (l : List Saved) (h : Holds store l) (table : ℕ) w
 
   -- a save
   pub saved-text : (text : List ℕ) (cs : List Call) (buffer : List ℕ) → saveReply bytes store table text .code ≡ 0 → length text ≤ length buffer
-      → isHeld table (saveReply bytes store table text .value) (savedOf (afterAll bytes (saveReply bytes store table text .state) cs)) ≡ true
+      → keptByAll bytes (saveReply bytes store table text .state) cs table (saveReply bytes store table text .value) ≡ true
       → readReply bytes (afterAll bytes (saveReply bytes store table text .state) cs) table (saveReply bytes store table text .value) buffer ≡ doneWith (length text) (text ++ drop (length text) buffer)
   unfolding saveRefusals textRefusals
-  saved-text text cs buffer z k held =
+  saved-text text cs buffer z k kept =
       let a = save-agree store l h table text in
       let zl = save-accepted listed l table text (sym (a .same-code) ∙ z) in
       let done = save-done listed l table text zl in
@@ -102,15 +107,15 @@ module _ (store : List ℕ) (l : List Saved) (h : Holds store l) (table : ℕ) w
       let is : text ≡ settingText (settingOf text) = read-setting text (none-code (textRefusals text) (none .0)) .0 in
       let value = a .same-value ∙ ap (λ (r : Reply (List Saved)). r .value) done in
       ap (λ (v : ℕ). readReply bytes (afterAll bytes (saveReply bytes store table text .state) cs) table v buffer) value
-      ∙ made-text (saveReply bytes store table text .state) (settingOf text) (rw done at (a .same-state)) cs buffer (rw value at held) (omega (arith, ap length is))
+      ∙ made-text (saveReply bytes store table text .state) (settingOf text) (rw done at (a .same-state)) cs buffer (rw value at kept) (omega (arith, ap length is))
       ∙ ap (λ (t : List ℕ). doneWith (length t) (t ++ drop (length t) buffer)) (sym is)
 
   -- a return
   pub returned-same : (version : ℕ) (cs : List Call) (buffer : List ℕ) → returnReply bytes store table version .code ≡ 0
-      → isHeld table (returnReply bytes store table version .value) (savedOf (afterAll bytes (returnReply bytes store table version .state) cs)) ≡ true
+      → keptByAll bytes (returnReply bytes store table version .state) cs table (returnReply bytes store table version .value) ≡ true
       → readReply bytes (afterAll bytes (returnReply bytes store table version .state) cs) table (returnReply bytes store table version .value) buffer ≡ readReply bytes store table version buffer
   unfolding returnRefusals
-  returned-same version cs buffer z held = go (found table version l) refl
+  returned-same version cs buffer z kept = go (found table version l) refl
     where
       a : Agree (returnReply bytes store table version) (returnReply listed l table version)
       a = return-agree store l h table version
@@ -131,4 +136,12 @@ module _ (store : List ℕ) (l : List Saved) (h : Holds store l) (table : ℕ) w
       go nothing q = absurd (true≢false (sym (ap isNothing q) ∙ there))
       go (just setting) q =
           ap (λ (v : ℕ). readReply bytes (afterAll bytes (returnReply bytes store table version .state) cs) table v buffer) value
-          ∙ made-again (returnReply bytes store table version .state) setting (rw (done, q) at (a .same-state)) cs buffer (rw value at held) version q
+          ∙ made-again (returnReply bytes store table version .state) setting (rw (done, q) at (a .same-state)) cs buffer (rw value at kept) version q
+
+-- a version that making room has freed
+pub freed-same : (store : List ℕ) → storeOk store ≡ true → (table version : ℕ) (list : List ℕ) (cs : List Call) → keepReply bytes store list .code ≡ 0 → isHeld table version (savedOf store) ≡ true → isKept list (savedOf store) table version ≡ false
+    → found table version (savedOf (afterAll bytes (keepReply bytes store list .state) cs)) ≡ nothing
+freed-same store ok table version list cs z held freed =
+    let left = keep-agree store (savedOf store) (own store ok) list .same-state .shape in
+    let low : version ≤ newest table (savedOf (keepReply bytes store list .state)) = rw (newest-stays store list table) (held-low table version (savedOf store) held) in
+    gone-same (keepReply bytes store list .state) _ (own _ left) table version cs low (found-kept store list z table version ∙ rw freed refl)
