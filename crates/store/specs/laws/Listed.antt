@@ -129,8 +129,7 @@ module _ (table version : ℕ) (l : List Saved) (cs : List Call) (low : version 
   pub still-held : isHeld table version l ≡ true → isHeld table version (afterAll listed l cs) ≡ kept
   still-held h =
       elim (tested kept) [
-        | holds t ↦
-            ap (λ (f : Found). not (isNothing f)) (still-found t) ∙ h ∙ sym t
+        | holds t ↦ ap (λ (f : Found). not (isNothing f)) (still-found t) ∙ h ∙ sym t
         | fails t ↦
             let none : later ≡ nothing = found-later ∙ rw t refl in
             ap (λ (f : Found). not (isNothing f)) none ∙ sym t

@@ -2,7 +2,7 @@
 use Prim.Native.Nat.{ℕ, zero, suc, max, _+_, _≤_, _<_}
 use mathlib.Core.Path.{_≡_, refl, sym, ap, _∙_}
 use mathlib.Core.Bool.{Bool, true, false, not, _||_, cond}
-use mathlib.Core.List.{List, [], _++_}
+use mathlib.Core.List.{List, []}
 use native.Mathlib.Numerals.{add-one}
 use native.Mathlib.Omega.{arith}
 use lib.Dec.{eqb}
@@ -11,7 +11,7 @@ use lib.Seq.{getD-set-same, getD-set-other}
 use borrow.Author.Tests.{eq-eqb, ne-eqb, eqb-true, eqb-false}
 use Rattle.basics.specs.Parts.{withPart}
 use Rattle.basics.specs.laws.Logic.{tested, holds, fails}
-use Rattle.store.specs.Saved.{Saved, newest, only}
+use Rattle.store.specs.Saved.{newest, only}
 use Rattle.store.specs.Kept.{isListed, isKept}
 use Rattle.store.specs.Layout.{number, versionIn, tableIn, placeOk, place, storeOk, savedAt, savedBelow, savedOf, isFreed, freePart, onlyBelow}
 use Rattle.store.specs.laws.Kept.{only-both}
@@ -95,14 +95,12 @@ module _ (keeps : ℕ → ℕ → Bool) (store : List ℕ) where
   unfolding onlyBelow savedBelow only
   left-holds zero h = refl
   left-holds (suc n) h =
-      elim (tested (gone n)) [
+      rw (only-both keeps (savedBelow n store) (savedAt (place n store)), kept-at keeps (place n store))
+      (elim (tested (gone n)) [
         | holds t ↦
-            rw (t, before-same freePart refl (left n) n (omega arith) n (omega arith), left-holds n (omega arith), at-place freePart refl (left n) n (omega arith), free-empty)
-            (ap (λ (k : List Saved). only keeps (savedBelow n store) ++ k) (sym (kept-at keeps (place n store) ∙ rw t refl)) ∙ sym (only-both keeps (savedBelow n store) (savedAt (place n store))))
-        | fails t ↦
-            rw (t, left-holds n (omega arith), not-yet n n (omega arith) (omega arith))
-            (ap (λ (k : List Saved). only keeps (savedBelow n store) ++ k) (sym (kept-at keeps (place n store) ∙ rw t refl)) ∙ sym (only-both keeps (savedBelow n store) (savedAt (place n store))))
-      ]
+            rw (t, before-same freePart refl (left n) n (omega arith) n (omega arith), left-holds n (omega arith), at-place freePart refl (left n) n (omega arith), free-empty) refl
+        | fails t ↦ rw (t, left-holds n (omega arith), not-yet n n (omega arith) (omega arith)) refl
+      ])
 
   -- ---- turn by turn
 
