@@ -4,6 +4,7 @@ use Prim.Native.Nat.{ℕ, _+_, _^_, _≤_, _<_}
 use mathlib.Core.Path.{_≡_, refl, ap, _∙_}
 use mathlib.Core.Bool.{true, false, cond}
 use mathlib.Core.List.{List, [], _∷_, _++_}
+use native.Mathlib.Omega.{arith}
 use lib.Dec.{leb}
 use lib.ListN.{length, drop}
 use Rattle.basics.specs.Tabulate.{tabulate}
@@ -12,15 +13,15 @@ use Rattle.refusals.specs.Refusals.{least, codeOf}
 use Rattle.refusals.specs.laws.Refusals.{code-both, Exact}
 use Rattle.refusals.specs.laws.Outcome.{outcome-code, outcome-exact, outcome-refused}
 use Rattle.setting.specs.Reader.{textRefusals, readingOf}
-use Rattle.store.specs.Saved.{Saved, newest, nothing, found, isHeld}
+use Rattle.store.specs.Saved.{Saved, newest, nothing, isVersion, found, isHeld}
 use Rattle.store.specs.Kept.{isKept}
 use Rattle.store.specs.Layout.{place, storeOk, savedOf, freePlace, withSaved, isFreed, freePart, freshStore}
 use Rattle.store.specs.Calls.{Storage, bytes, refusedWith, doneWith, next, putRefusals, saveRefusals, saveReply, returnRefusals, returnReply, readRefusals, readReply, keepRefusals, keepReply, freshRefusals, freshReply}
-use Rattle.store.specs.History.{Call, Save, Return, Keep, after, afterAll, given, keptByAll, listed, Holds, Follows, InOrder}
+use Rattle.store.specs.History.{Call, Save, Return, Keep, after, afterAll, given, keptByAll, listed, many, Holds, Follows, InOrder}
 use Rattle.store.specs.laws.Fresh.{fresh-ok, fresh-holds-nothing}
 use Rattle.store.specs.laws.Calls.{read-missing, return-missing}
 use Rattle.store.specs.laws.History.{save-agree, return-agree, read-same, keep-agree, after-holds, all-hold, all-given}
-use Rattle.store.specs.laws.Listed.{all-follow, all-numbered, from-one}
+use Rattle.store.specs.laws.Listed.{all-follow, all-numbered, from-one, all-once}
 use Rattle.store.specs.laws.Readings.{own, saved-text, returned-same, kept-same, held-same, freed-same}
 use Rattle.store.specs.laws.Room.{newest-stays, place-kept, found-kept, value-gone}
 
@@ -139,6 +140,11 @@ module _ (cs : List Call) where
 -- what the list held is there as it was where all calls keep it, and what it gains has higher numbers
 pub list-follows : (l : List Saved) (cs : List Call) → Follows (keptByAll listed l cs) l (afterAll listed l cs)
 list-follows = all-follow
+
+-- no version is held twice
+pub held-once : (cs : List Call) (table version : ℕ) → many (isVersion table version) (savedOf (afterAll bytes freshStore cs)) ≤ 1
+unfolding many
+held-once cs table version = rw (history cs .versions .same-many (isVersion table version)) (all-once [] cs table version (omega arith))
 
 -- ---- in any store of the right shape
 

@@ -34,10 +34,13 @@ abbrev pub textOf : Found → List ℕ
 textOf nothing = []
 textOf (just s) = settingText s
 
+abbrev pub isVersion : ℕ → ℕ → Saved → Bool
+isVersion table version e = eqb (e .table) table && eqb (e .version) version
+
 -- the setting of a table's version: the first, where there are several
 unfoldable pub found : ℕ → ℕ → List Saved → Found
 found table version [] = nothing
-found table version (e ∷ l) = cond (eqb (e .table) table && eqb (e .version) version) (just (e .setting)) (found table version l)
+found table version (e ∷ l) = cond (isVersion table version e) (just (e .setting)) (found table version l)
 
 abbrev pub isHeld : ℕ → ℕ → List Saved → Bool
 isHeld table version l = not (isNothing (found table version l))

@@ -121,6 +121,15 @@ many-only p keeps (e ∷ l) =
       | fails t ↦ rw t (omega (arith, many-only p keeps l))
     ]
 
+pub many-less : (p : Saved → Bool) (keeps : ℕ → ℕ → Bool) (l : List Saved) → many p (only keeps l) ≤ many p l
+unfolding many only
+many-less p keeps [] = omega arith
+many-less p keeps (e ∷ l) =
+    elim (tested (passes keeps e)) [
+      | holds t ↦ rw t (omega (arith, many-less p keeps l))
+      | fails t ↦ rw t (omega (arith, many-less p keeps l))
+    ]
+
 only-long : (keeps : ℕ → ℕ → Bool) (l : List Saved) → length (only keeps l) ≡ many (passes keeps) l
 unfolding many only
 only-long keeps [] = refl

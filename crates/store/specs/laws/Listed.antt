@@ -13,12 +13,12 @@ use Rattle.refusals.specs.laws.Outcome.{outcome-is}
 use Rattle.refusals.specs.laws.Refusals.{NoneHolds}
 use Rattle.setting.specs.Reader.{textRefusals, settingOf}
 use Rattle.setting.specs.declared.Setting.{Setting}
-use Rattle.store.specs.Saved.{Saved, saved, newest, Found, nothing, just, isNothing, found, isHeld, only}
+use Rattle.store.specs.Saved.{Saved, saved, newest, Found, nothing, just, isNothing, isVersion, found, isHeld, only}
 use Rattle.store.specs.Kept.{isKept}
 use Rattle.store.specs.Calls.{Reply, refusedWith, doneWith, next, putRefusals, saveRefusals, saveReply, again, returnRefusals, returnReply, keepRefusals, keepReply}
-use Rattle.store.specs.History.{Call, Save, Return, Read, Keep, numberIn, after, afterAll, givenBy, given, keptBy, keptByAll, listed, Follows, InOrder}
-use Rattle.store.specs.laws.Saved.{or-nothing, found-both, newest-both, above-newest}
-use Rattle.store.specs.laws.Kept.{only-both, only-all, only-twice, found-only, kept-newest}
+use Rattle.store.specs.History.{Call, Save, Return, Read, Keep, numberIn, after, afterAll, givenBy, given, keptBy, keptByAll, listed, many, Follows, InOrder}
+use Rattle.store.specs.laws.Saved.{or-nothing, found-both, newest-both, many-both, above-newest, none-above}
+use Rattle.store.specs.laws.Kept.{only-both, only-all, only-twice, found-only, many-less, kept-newest}
 
 -- what a call leaves, with the numbers that it gives to tables and the versions that it keeps: the list as it was; with a table's next version behind it; or with only what is kept, the newest of each table among that
 data Left (l m : List Saved) (numbers : ℕ → List ℕ) (kept : ℕ → ℕ → Bool) : Type 0 where
@@ -190,3 +190,25 @@ pub from-one : {to : ℕ} {numbers : List ℕ} → InOrder 0 to numbers → numb
 from-one {to} r =
     let all : r .count ≡ to = omega (arith, r .reaches) in
     r .are ∙ tabulate-alike (r .count) _ _ (λ i. omega arith) ∙ ap (λ (n : ℕ). tabulate n (λ i. i + 1)) all
+
+-- ---- no version twice
+
+once-by : {l m : List Saved} {numbers : ℕ → List ℕ} {kept : ℕ → ℕ → Bool} → Left l m numbers kept → (table version : ℕ) → many (isVersion table version) l ≤ 1 → many (isVersion table version) m ≤ 1
+unfolding many
+once-by (stays e g k) table version h = rw e h
+once-by {l} (gains own setting e g k) table version h =
+    let more = many-both (isVersion table version) l (saved own (next listed l own) setting ∷ []) in
+    rw e
+    (elim (tested (eqb own table && eqb (next listed l own) version)) [
+      | holds t ↦
+          let same = eqb-true own table (and-left (eqb own table) (eqb (next listed l own) version) t) in
+          let is = eqb-true (next listed l own) version (and-right (eqb own table) (eqb (next listed l own) version) t) in
+          omega (arith, rw t at more, none-above table version l (omega (arith, rw same at is)))
+      | fails t ↦ omega (arith, rw t at more)
+    ])
+once-by {l} {kept = kept} (frees e g n) table version h = rw e (omega (arith, many-less (isVersion table version) kept l))
+
+pub all-once : (l : List Saved) (cs : List Call) (table version : ℕ) → many (isVersion table version) l ≤ 1 → many (isVersion table version) (afterAll listed l cs) ≤ 1
+unfolding afterAll
+all-once l [] table version h = h
+all-once l (c ∷ cs) table version h = all-once (after listed l c) cs table version (once-by (after-left l c) table version h)

@@ -9,7 +9,7 @@ use lib.ListN.{length}
 use borrow.Author.Tests.{eqb-true}
 use Rattle.basics.specs.laws.Logic.{tested, holds, fails, and-left, and-right}
 use Rattle.setting.specs.declared.Setting.{Setting}
-use Rattle.store.specs.Saved.{Saved, newest, Found, nothing, just, found}
+use Rattle.store.specs.Saved.{Saved, newest, Found, nothing, just, isVersion, found}
 use Rattle.store.specs.History.{many, Alike}
 
 -- the first of two that is there
@@ -52,6 +52,18 @@ above-newest table version (e ∷ l) h =
           let same = eqb-true (e .version) version (and-right (eqb (e .table) table) (eqb (e .version) version) t) in
           absurd (omega (arith, same, rw own at h))
       | fails t ↦ rw t (above-newest table version l (omega (arith, h)))
+    ]
+
+pub none-above : (table version : ℕ) (l : List Saved) → newest table l < version → many (isVersion table version) l ≡ 0
+unfolding many newest
+none-above table version [] h = refl
+none-above table version (e ∷ l) h =
+    elim (tested (isVersion table version e)) [
+      | holds t ↦
+          let own = and-left (eqb (e .table) table) (eqb (e .version) version) t in
+          let same = eqb-true (e .version) version (and-right (eqb (e .table) table) (eqb (e .version) version) t) in
+          absurd (omega (arith, same, rw own at h))
+      | fails t ↦ rw t (omega (arith, none-above table version l (omega (arith, h))))
     ]
 
 -- ---- one version more
