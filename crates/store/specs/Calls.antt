@@ -1,6 +1,6 @@
 -- The calls on a store: the refusals of each, and what it comes to (RULES, Settings).
 use Prim.Native.Nat.{ℕ, _+_, _%_, _^_}
-use mathlib.Core.Bool.{Bool, not}
+use mathlib.Core.Bool.{Bool, not, _||_}
 use mathlib.Core.List.{List, [], _∷_, _++_}
 use lib.Dec.{leb, ltb, eqb}
 use lib.ListN.{length, drop}
@@ -91,8 +91,7 @@ module _ {S : Type 0} (st : Storage S) where
   -- room is made: only the newest version of each table and those listed are kept; the value is the number of the others
   unfoldable pub keepRefusals : S → List ℕ → List Refusal
   keepRefusals s list =
-      refuse 4 (not (st .sound s))
-      ∷ refuse 4 (eqb (length list % 2) 1)
+      refuse 4 (not (st .sound s) || eqb (length list % 2) 1)
       ∷ refuse 11 (not (allHeld list (st .holds s)))
       ∷ []
 

@@ -74,7 +74,7 @@ module _ (m n i : ℕ) (l : List ℕ) (long : length l ≡ m * n) (there : i < m
   lent-long : length (take n (drop (n * i) l)) ≡ n
   lent-long = length-take-le n (drop (n * i) l) (rw length-drop (omega (arith, ends)))
 
-  pub lent-part : take n (drop (n * i) l) ≡ part n i l
+  lent-part : take n (drop (n * i) l) ≡ part n i l
   lent-part =
       ext-getD 0 _ _ (lent-long ∙ sym (part-long n i l))
       (λ k lt. let g : k < n = rw lent-long at lt in getD-take n (drop (n * i) l) k 0 g ∙ getD-drop (n * i) l k 0 ∙ sym (part-at n i k l g))
@@ -131,6 +131,20 @@ module _ (m n i : ℕ) (l : List ℕ) (long : length l ≡ m * n) (there : i < m
     part-back =
         ext-getD 0 given _ (given-long ∙ sym (length-tabulate (m * n) _))
         (λ x lt. let h : x < m * n = rw given-long at lt in at-place x h ∙ sym (getD-tabulate (m * n) _ x h))
+
+-- the same where code lends from n * i up to n * i + n
+module _ (m n i : ℕ) (l : List ℕ) (long : length l ≡ m * n) (there : i < m) where
+  width : n * i + n - n * i ≡ n
+  width = omega arith
+
+  pub slice-is : take (n * i + n - n * i) (drop (n * i) l) ≡ part n i l
+  slice-is = rw width (lent-part m n i l long there)
+
+  pub slice-long : length (take (n * i + n - n * i) (drop (n * i) l)) ≡ n
+  slice-long = rw slice-is (part-long n i l)
+
+  pub slice-back : (p : List ℕ) → length p ≡ n → take (n * i) l ++ (p ++ drop (n * i + n - n * i) (drop (n * i) l)) ≡ withPart m n i p l
+  slice-back p e = rw width (part-back m n i l long there p e)
 
 -- of two that are put in for the same part, the second stands
 pub with-twice : (m n i : ℕ) (p q l : List ℕ) → withPart m n i p (withPart m n i q l) ≡ withPart m n i p l

@@ -14,7 +14,7 @@ use Rattle.basics.specs.Parts.{part, withPart}
 use Rattle.basics.specs.laws.Below.{below-at, below-all, below-alike}
 use Rattle.basics.specs.laws.Lists.{getD-there}
 use Rattle.basics.specs.laws.Logic.{holds, fails, tested, lt-or-ge}
-use Rattle.basics.specs.laws.Parts.{part-long, part-same, part-other, lent-part, part-back, with-own}
+use Rattle.basics.specs.laws.Parts.{part-same, part-other, slice-is, slice-long, slice-back, with-own}
 use Rattle.chip.specs.Kinds.{outputsOf}
 use Rattle.chip.specs.declared.Chip.{Chip}
 use Rattle.chip.specs.declared.Chip.the-variants.{Pca9635}
@@ -126,18 +126,15 @@ module _ (l : List ℕ) (i : ℕ) (long : length l ≡ 128) (h : i < 8) where
   abbrev pub lent : List ℕ
   lent = take (16 * i + 16 - 16 * i) (drop (16 * i) l)
 
-  width : 16 * i + 16 - 16 * i ≡ 16
-  width = omega arith
-
   pub lent-is : lent ≡ part 16 i l
-  lent-is = rw width (lent-part 8 16 i l long h)
+  lent-is = slice-is 8 16 i l long h
 
   pub lent-long : length lent ≡ 16
-  lent-long = rw lent-is (part-long 16 i l)
+  lent-long = slice-long 8 16 i l long h
 
   -- and given back
   pub given-back : (p : List ℕ) → length p ≡ 16 → take (16 * i) l ++ (p ++ drop (16 * i + 16 - 16 * i) (drop (16 * i) l)) ≡ withPart 8 16 i p l
-  given-back p e = rw width (part-back 8 16 i l long h p e)
+  given-back = slice-back 8 16 i l long h
 
 -- a device and its totals, lent and given back, are its record
 pub record-back : (b : Bus) (dev : ℕ) → dev < 8 → length (b .lit) ≡ 128 → length (b .unlit) ≡ 128 → (d : Device) (p q : List ℕ) (r : Record) → (length (r .lit) ≡ 16) × (length (r .unlit) ≡ 16) → recordOf d p q ≡ r

@@ -103,6 +103,13 @@ pub code-first : (l m : List Refusal) (n : ℕ) → (codeOf l ≡ 0 → ⊥) →
 code-first l m n p h a =
     code-both l m ∙ ⊎-elim (λ e. rw e (least-zero (codeOf l))) (λ g. least-min (codeOf l) (codeOf m) p (λ z. omega arith) ∙ omega arith) (code-above n m a)
 
+-- a refusal that holds, before those with larger numbers
+pub first-code : (k : ℕ) (m : List Refusal) → (k ≡ 0 → ⊥) → above k m ≡ true → codeOf (refuse k true ∷ m) ≡ k
+unfolding codeOf
+first-code k m n a =
+    let own = least-zero k in
+    code-first (refuse k true ∷ []) m k (λ z. n (sym own ∙ z)) (omega (arith, own)) a ∙ own
+
 -- ---- a code of 0
 
 -- no number of a list is 0, which would say that nothing is refused

@@ -1,7 +1,7 @@
 -- How a call's reply comes about: done or refused, over any storage.
 use Prim.Native.Nat.{ℕ, _+_, _%_, _^_, _≤_, _<_}
 use mathlib.Core.Path.{_≡_, refl, sym, ap, _∙_}
-use mathlib.Core.Bool.{Bool, true, false, not}
+use mathlib.Core.Bool.{true, false, not}
 use mathlib.Core.List.{List, [], _∷_, _++_}
 use native.Mathlib.Omega.{arith}
 use lib.Dec.{leb, eqb}
@@ -9,7 +9,7 @@ use lib.ListN.{length, drop}
 use borrow.Author.Tests.{eq-eqb, ne-eqb, lt-ltb, le-ltb}
 use Rattle.basics.specs.laws.Logic.{tested, holds, fails}
 use Rattle.refusals.specs.Refusals.{refuse, least, codeOf}
-use Rattle.refusals.specs.laws.Refusals.{code-first}
+use Rattle.refusals.specs.laws.Refusals.{first-code}
 use Rattle.refusals.specs.laws.Outcome.{done-is, refused-is}
 use Rattle.setting.specs.Reader.{settingOf}
 use Rattle.setting.specs.Setting.{settingText}
@@ -38,27 +38,6 @@ fresh-value buffer lent code value e =
 
 -- ---- done or refused
 
-four-first : (a b : Bool) → codeOf (refuse 4 true ∷ refuse 8 a ∷ refuse 11 b ∷ []) ≡ 4
-unfolding codeOf least
-four-first a b = code-first (refuse 4 true ∷ []) (refuse 8 a ∷ refuse 11 b ∷ []) 4 (λ z. omega arith) (omega arith) refl
-
-eleven-then : (b : Bool) → 11 ≡ codeOf (refuse 11 true ∷ refuse 12 b ∷ [])
-unfolding codeOf least
-eleven-then true = refl
-eleven-then false = refl
-
-four-then : (b : Bool) → 4 ≡ codeOf (refuse 4 true ∷ refuse 11 b ∷ [])
-unfolding codeOf least
-four-then true = refl
-four-then false = refl
-
-four-both : (a b : Bool) → 4 ≡ codeOf (refuse 4 true ∷ refuse 4 a ∷ refuse 11 b ∷ [])
-unfolding codeOf least
-four-both true true = refl
-four-both true false = refl
-four-both false true = refl
-four-both false false = refl
-
 module _ {S : Type 0} (st : Storage S) (s : S) (list : List ℕ) where
   pub keep-done : codeOf (keepRefusals st s list) ≡ 0 → keepReply st s list ≡ doneWith (freedBy list (st .holds s)) (st .keep (isKept list (st .holds s)) s)
   unfolding keepReply
@@ -67,11 +46,11 @@ module _ {S : Type 0} (st : Storage S) (s : S) (list : List ℕ) where
   -- its code, from what is found
   pub keep-unsound : st .sound s ≡ false → 4 ≡ codeOf (keepRefusals st s list)
   unfolding keepRefusals
-  keep-unsound e = rw e (four-both (eqb (length list % 2) 1) (not (allHeld list (st .holds s))))
+  keep-unsound e = rw e (sym (first-code 4 (refuse 11 (not (allHeld list (st .holds s))) ∷ []) (λ z. omega arith) refl))
 
   pub keep-odd : st .sound s ≡ true → length list % 2 ≡ 1 → 4 ≡ codeOf (keepRefusals st s list)
-  unfolding keepRefusals codeOf least
-  keep-odd e o = rw (e, eq-eqb (length list % 2) 1 o) (four-then (not (allHeld list (st .holds s))))
+  unfolding keepRefusals
+  keep-odd e o = rw (e, eq-eqb (length list % 2) 1 o) (sym (first-code 4 (refuse 11 (not (allHeld list (st .holds s))) ∷ []) (λ z. omega arith) refl))
 
   pub keep-missing : st .sound s ≡ true → (length list % 2 ≡ 1 → ⊥) → allHeld list (st .holds s) ≡ false → 11 ≡ codeOf (keepRefusals st s list)
   unfolding keepRefusals codeOf least
@@ -105,7 +84,7 @@ module _ {S : Type 0} (st : Storage S) (s : S) (table : ℕ) where
   pub return-missing : (version : ℕ) → st .sound s ≡ true → next st s table ≤ 2 ^ 48 → found table version (st .holds s) ≡ nothing → returnReply st s table version ≡ refusedWith s 11
   unfolding returnRefusals codeOf least
   return-missing version e few f =
-      let code : codeOf (returnRefusals st s table version) ≡ 11 = rw (e, f, le-ltb (2 ^ 48) (next st s table) few) (sym (eleven-then (leb 256 (length (st .holds s))))) in
+      let code : codeOf (returnRefusals st s table version) ≡ 11 = rw (e, f, le-ltb (2 ^ 48) (next st s table) few) (first-code 11 (refuse 12 (leb 256 (length (st .holds s))) ∷ []) (λ z. omega arith) refl) in
       return-refused version (λ z. omega (arith, code, z)) ∙ ap (refusedWith s) code
 
   -- a read, by what is found
@@ -113,7 +92,7 @@ module _ {S : Type 0} (st : Storage S) (s : S) (table : ℕ) where
     pub read-unsound : st .sound s ≡ false → readReply st s table version buffer ≡ refusedWith buffer 4
     unfolding readReply readRefusals
     read-unsound e =
-        let first : codeOf (readRefusals st s table version buffer) ≡ 4 = rw e (four-first _ _) in
+        let first : codeOf (readRefusals st s table version buffer) ≡ 4 = rw e (first-code 4 (refuse 8 _ ∷ refuse 11 _ ∷ []) (λ z. omega arith) refl) in
         refused-is (readRefusals st s table version buffer) (refusedWith buffer) _ (λ z. omega (arith, first, z)) ∙ ap (refusedWith buffer) first
 
     pub read-missing : st .sound s ≡ true → found table version (st .holds s) ≡ nothing → readReply st s table version buffer ≡ refusedWith buffer 11

@@ -1,17 +1,17 @@
 -- A call's reply, from what the code finds in the bytes of a store.
-use Prim.Native.Nat.{ℕ, _+_, _^_, _≤_, _<_}
+use Prim.Native.Nat.{ℕ, _+_, _%_, _^_, _≤_, _<_}
 use mathlib.Core.Path.{_≡_, refl, sym, ap, _∙_}
 use mathlib.Core.Bool.{Bool, true, false, not}
 use mathlib.Core.List.{List, [], _∷_, _++_, append-assoc}
 use native.Mathlib.Nat.{zero-add}
 use native.Mathlib.Omega.{arith}
-use lib.Dec.{leb, ltb}
+use lib.Dec.{leb, ltb, eqb}
 use lib.ListN.{length, take, drop}
 use borrow.Author.Tests.{lt-ltb, le-ltb, leb-true, leb-false, ltb-false, not-false}
-use Rattle.basics.specs.laws.Logic.{tested, holds, fails}
+use Rattle.basics.specs.laws.Logic.{tested, holds, fails, neither}
 use Rattle.basics.specs.Parts.{withPart}
 use Rattle.refusals.specs.Refusals.{Refusal, refuse, least, numberOf, codeOf}
-use Rattle.refusals.specs.laws.Refusals.{refused-more, code-both, code-first, positive, positive-both, none-both, accepted}
+use Rattle.refusals.specs.laws.Refusals.{refused-more, code-both, first-code, positive, positive-both, none-both, accepted}
 use Rattle.setting.specs.Reader.{textRefusals, readingOf}
 use Rattle.setting.specs.declared.read.Reading.{Reading}
 use Rattle.setting.specs.Setting.{settingText}
@@ -58,8 +58,7 @@ above-limit n = elim (tested (leb (2 ^ 48) n)) [
 
 -- in a store of another shape 4 comes first, whatever else holds
 unsound-code : (a b c : Bool) → codeOf (refuse 4 true ∷ refuse 6 a ∷ refuse 11 b ∷ refuse 12 c ∷ []) ≡ 4
-unfolding codeOf least
-unsound-code a b c = code-first (refuse 4 true ∷ []) (refuse 6 a ∷ refuse 11 b ∷ refuse 12 c ∷ []) 4 (λ z. omega arith) (omega arith) refl
+unsound-code a b c = first-code 4 (refuse 6 a ∷ refuse 11 b ∷ refuse 12 c ∷ []) (λ z. omega arith) refl
 
 -- what the code finds in a store
 abbrev pub RoomOf : List ℕ → ℕ → Room → Type 0
@@ -199,7 +198,7 @@ module _ (store list : List ℕ) (code : ℕ) (is : code ≡ codeOf (keepRefusal
   module _ (z : code ≡ 0) where
     pub keep-ready : storeOk store ≡ true
     unfolding keepRefusals
-    keep-ready = not-false (storeOk store) (accepted (keepRefusals bytes store list) refl (sym is ∙ z) .0)
+    keep-ready = not-false (storeOk store) (neither (not (storeOk store)) (eqb (length list % 2) 1) (accepted (keepRefusals bytes store list) refl (sym is ∙ z) .0) .0)
 
     pub keep-is : (after : List ℕ) (value : ℕ) → after ≡ withOnly (isKept list (savedOf store)) store → value ≡ freedBy list (savedOf store)
         → doneWith value after ≡ keepReply bytes store list

@@ -107,7 +107,7 @@ newest-there keeps table n k (e ∷ l) h =
     lowest b e = omega arith
 
 -- where the newest is kept, it stays the newest
-pub newest-only : (keeps : ℕ → ℕ → Bool) (table : ℕ) (l : List Saved) → keeps table (newest table l) ≡ true → newest table (only keeps l) ≡ newest table l
+newest-only : (keeps : ℕ → ℕ → Bool) (table : ℕ) (l : List Saved) → keeps table (newest table l) ≡ true → newest table (only keeps l) ≡ newest table l
 newest-only keeps table l k = omega (arith, newest-less keeps table l, newest-there keeps table (newest table l) k l refl)
 
 -- ---- how many

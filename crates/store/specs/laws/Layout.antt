@@ -16,7 +16,7 @@ use Rattle.basics.specs.First.{all}
 use Rattle.basics.specs.Parts.{withPart}
 use Rattle.basics.specs.laws.Below.{below-at, below-all, first-holds}
 use Rattle.basics.specs.laws.Logic.{tested, holds, fails, and-left, and-right}
-use Rattle.basics.specs.laws.Parts.{part-long, lent-part, part-back, part-same, part-other, with-part-long}
+use Rattle.basics.specs.laws.Parts.{part-long, part-back, slice-is, slice-long, slice-back, part-same, part-other, with-part-long}
 use Rattle.chip.specs.declared.Chip.{Chip}
 use Rattle.chip.specs.declared.Chip.the-variants.{Pca9635, Pca9634, Pca9531, Pca9551}
 use Rattle.chip.specs.Addresses.{addressAllowed}
@@ -80,17 +80,13 @@ module _ (e : Saved) (s : IsSaved e) where
 
 module _ (store : List ℕ) (i : ℕ) (long : length store ≡ storeSize) (there : i < 256) where
   pub place-lent : take (40 * i + 40 - 40 * i) (drop (40 * i) store) ≡ place i store
-  place-lent =
-      let e : 40 * i + 40 - 40 * i ≡ 40 = omega arith in
-      rw e (lent-part 256 40 i store long there)
+  place-lent = slice-is 256 40 i store long there
 
   pub lent-long : length (take (40 * i + 40 - 40 * i) (drop (40 * i) store)) ≡ 40
-  lent-long = rw place-lent (part-long 40 i store)
+  lent-long = slice-long 256 40 i store long there
 
   pub place-back : (p : List ℕ) → length p ≡ 40 → take (40 * i) store ++ (p ++ drop (40 * i + 40 - 40 * i) (drop (40 * i) store)) ≡ withPart 256 40 i p store
-  place-back p wide =
-      let e : 40 * i + 40 - 40 * i ≡ 40 = omega arith in
-      rw e (part-back 256 40 i store long there p wide)
+  place-back = slice-back 256 40 i store long there
 
 -- ---- how a place is judged
 

@@ -17,7 +17,7 @@ use Rattle.store.specs.Saved.{Saved, saved, newest, Found, nothing, just
 use Rattle.store.specs.Kept.{isKept}
 use Rattle.store.specs.Calls.{Reply, refusedWith, doneWith, next, putRefusals, saveRefusals, saveReply, again, returnRefusals, returnReply, keepRefusals, keepReply}
 use Rattle.store.specs.History.{Call, Save, Return, Read, Keep, numberIn, after, afterAll, givenBy, given, keptBy, keptByAll, listed, many, Follows, InOrder}
-use Rattle.store.specs.laws.Saved.{or-nothing, found-both, newest-both, many-both, above-newest, none-above}
+use Rattle.store.specs.laws.Saved.{or-nothing, found-both, newest-both, many-both, above-newest, none-found}
 use Rattle.store.specs.laws.Kept.{only-both, only-all, only-twice, found-only, many-less, kept-newest}
 
 -- what a call leaves, with the numbers that it gives to tables and the versions that it keeps: the list as it was; with a table's next version behind it; or with only what is kept, the newest of each table among that
@@ -203,7 +203,7 @@ once-by {l} (gains own setting e g k) table version h =
       | holds t ↦
           let same = eqb-true own table (and-left (eqb own table) (eqb (next listed l own) version) t) in
           let is = eqb-true (next listed l own) version (and-right (eqb own table) (eqb (next listed l own) version) t) in
-          omega (arith, rw t at more, none-above table version l (omega (arith, rw same at is)))
+          omega (arith, rw t at more, none-found table version l (above-newest table version l (omega (arith, rw same at is))))
       | fails t ↦ omega (arith, rw t at more)
     ])
 once-by {l} {kept = kept} (frees e g n) table version h = rw e (omega (arith, many-less (isVersion table version) kept l))

@@ -54,7 +54,7 @@ module _ (keeps : ℕ → ℕ → Bool) (store : List ℕ) where
   gone i = isFreed keeps (place i store)
 
   -- a place that no turn has come to
-  pub not-yet : (n i : ℕ) → n ≤ i → i < 256 → place i (left n) ≡ place i store
+  not-yet : (n i : ℕ) → n ≤ i → i < 256 → place i (left n) ≡ place i store
   unfolding onlyBelow
   not-yet zero i h k = refl
   not-yet (suc n) i h k =

@@ -54,18 +54,6 @@ above-newest table version (e ∷ l) h =
       | fails t ↦ rw t (above-newest table version l (omega (arith, h)))
     ]
 
-pub none-above : (table version : ℕ) (l : List Saved) → newest table l < version → many (isVersion table version) l ≡ 0
-unfolding many newest
-none-above table version [] h = refl
-none-above table version (e ∷ l) h =
-    elim (tested (isVersion table version e)) [
-      | holds t ↦
-          let own = and-left (eqb (e .table) table) (eqb (e .version) version) t in
-          let same = eqb-true (e .version) version (and-right (eqb (e .table) table) (eqb (e .version) version) t) in
-          absurd (omega (arith, same, rw own at h))
-      | fails t ↦ rw t (omega (arith, none-above table version l (omega (arith, h))))
-    ]
-
 -- ---- one version more
 
 -- m is l with one version more, at some place
@@ -84,6 +72,16 @@ never e = absurd (let z : _≡_ {A = ℕ} 0 1 = cc in omega arith)
 
 pub just-inj : {s t : Setting} → just s ≡ just t → s ≡ t
 just-inj e = cc
+
+-- what is not found is not there at all
+pub none-found : (table version : ℕ) (l : List Saved) → found table version l ≡ nothing → many (isVersion table version) l ≡ 0
+unfolding many found
+none-found table version [] f = refl
+none-found table version (e ∷ l) f =
+    elim (tested (isVersion table version e)) [
+      | holds t ↦ never (sym (rw t at f))
+      | fails t ↦ rw t (omega (arith, none-found table version l (rw t at f)))
+    ]
 
 -- a version above the newest of its table may stand anywhere
 module _ (e : Saved) (l m : List Saved) (i : Inserted e l m) (higher : newest (e .table) l < e .version) where
