@@ -1,4 +1,5 @@
 // When the two blinks of a blinker begin together again.
+#![tactic(auto)]
 ghost use Rattle.std.specs.Prelude.{◌≡◌, ◌≤◌, ◌<◌};
 ghost use Rattle.basics.specs.Divisors.{gcd_of, lcm_of};
 ghost use Rattle.blink.specs.Start.{common_start};
@@ -13,6 +14,7 @@ fn gcd(a: u64, b: u64) -> u64
 }
 
 // The least common multiple of two numbers from 1 to 256.
+#[tactic(auto, unfolding(basics::specs::Divisors::lcm_of))]
 fn lcm(a: u64, b: u64) -> u64
     requires { (0 < a) × (a ≤ 256) × (0 < b) × (b ≤ 256) }
     ensures value { result ≡ lcm_of a b }
@@ -22,6 +24,7 @@ fn lcm(a: u64, b: u64) -> u64
 }
 
 // The first step above 0 at which the blinks with these prescalers both begin.
+#[tactic(auto, unfolding(crate::specs::Start::common_start))]
 pub fn common_start(psc0: u8, psc1: u8) -> BlinkerSteps
     ensures { result.0 ≡ common_start psc0 psc1 }
 {

@@ -4,6 +4,7 @@ ghost use Rattle.chip.specs.Addresses.{address_allowed, is_barred};
 
 use crate::{Chip, Lookup};
 
+#[tactic(auto, unfolding(crate::specs::Addresses::address_allowed))]
 pub fn address_allowed(chip: Chip, address: u64) -> bool
     ensures { result ≡ address_allowed chip address }
 {

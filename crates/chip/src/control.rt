@@ -6,6 +6,7 @@ ghost use Rattle.chip.specs.Control.{driver_legal, option_first, option_last, ne
 
 use crate::Chip;
 
+#[tactic(auto, unfolding(crate::specs::Registers::pointed))]
 pub fn register(chip: Chip, control: u8) -> u8
     ensures { result ≡ pointed chip control }
 {
@@ -44,6 +45,7 @@ fn blinker_legal(control: u8) -> bool
     }
 }
 
+#[tactic(auto, unfolding(crate::specs::Control::control_legal))]
 pub fn is_legal(chip: Chip, control: u8) -> bool
     ensures { result ≡ control_legal chip control }
 {
@@ -116,6 +118,7 @@ fn blinker_moved(control: u8) -> u8
     }
 }
 
+#[tactic(auto, unfolding(crate::specs::Control::control_moved))]
 pub fn moved(chip: Chip, control: u8) -> u8
     ensures { result ≡ control_moved chip control }
 {

@@ -1,4 +1,5 @@
 // What is fixed by the kind of a chip: its number of outputs, register map, addresses, control bytes, pointer moves and reset values.
+#![tactic(auto)]
 mod addresses;
 pub mod control;
 mod kinds;
@@ -12,7 +13,7 @@ pub use registers::{
     writables,
 };
 
-#[derive(Drop)]
+#[derive(Clone, Copy)]
 pub enum Chip {
     Pca9635,
     Pca9634,
@@ -21,14 +22,14 @@ pub enum Chip {
 }
 
 // What a chip's number names.
-#[derive(Drop)]
+#[derive(Clone, Copy)]
 pub enum Lookup {
     Known(Chip),
     Unknown,
 }
 
 // Where a driver's registers start, after MODE1, MODE2 and the PWMs.
-#[derive(Drop)]
+#[derive(Clone, Copy)]
 pub struct RegisterMap {
     pub grppwm: u8,
     pub grpfreq: u8,

@@ -53,6 +53,7 @@ pub fn register_map(chip: Chip) -> RegisterMap
 }
 
 // Whether the chip holds this register as written and as in effect.
+#[tactic(auto, unfolding(crate::specs::Registers::is_buffered))]
 pub fn is_buffered(chip: Chip, register: usize) -> bool
     ensures { result ≡ is_buffered chip register }
 {

@@ -57,6 +57,7 @@ fn blinker_resets(psc: u8, ls: u8) -> [u8; 28]
 }
 
 // Registers that the chip does not have are 0.
+#[tactic(auto, unfolding(crate::specs::Values::reset_registers))]
 pub fn reset_registers(chip: Chip) -> [u8; 28]
     ensures { result ≡ reset_registers chip }
 {
@@ -84,6 +85,7 @@ fn writable_bits(chip: Chip, register: u8, byte: u8) -> u8
 }
 
 // What the register holds after a write of byte over old.
+#[tactic(auto, unfolding(crate::specs::Values::stored_byte))]
 pub fn stored(chip: Chip, register: u8, old: u8, byte: u8) -> u8
     ensures { result ≡ stored_byte chip register old byte }
 {
@@ -97,6 +99,7 @@ pub fn stored(chip: Chip, register: u8, old: u8, byte: u8) -> u8
 }
 
 // What the pointed register reads as when it holds byte.
+#[tactic(auto, unfolding(crate::specs::Values::read_byte))]
 pub fn read(chip: Chip, control: u8, byte: u8) -> u8
     ensures { result ≡ read_byte chip control byte }
 {

@@ -1,4 +1,5 @@
 // One device of the bus, by value: its record, and what the record says of itself.
+#![tactic(auto)]
 use chip::Chip;
 
 mod fields;
@@ -14,7 +15,7 @@ pub use reset::{after_reset, fresh};
 
 // What a device is doing in the message on the bus: Talking is the rules' "talking"; Control, Data and the last three are their "listening".
 // The last three are the software reset call: 06h taken, then A5h, then 5Ah.
-#[derive(Drop)]
+#[derive(Clone, Copy)]
 pub enum Stage {
     Unselected,
     Control,
@@ -26,7 +27,7 @@ pub enum Stage {
 }
 
 // The message on the bus: none, one whose address is due, a write, a read, and a read after a get that was not acknowledged.
-#[derive(Drop)]
+#[derive(Clone, Copy)]
 pub enum Phase {
     Idle,
     Address,
@@ -35,7 +36,7 @@ pub enum Phase {
     Ended,
 }
 
-#[derive(Drop)]
+#[derive(Clone, Copy)]
 pub struct Device {
     pub chip: Chip,
     pub stage: Stage,

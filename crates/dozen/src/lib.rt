@@ -1,1 +1,2 @@
 // The marked examples (RULES, Marked examples) are in specs/.
+#![tactic(auto)]

@@ -1,1 +1,2 @@
 // Demand 3 on lit's answers is in specs/.
+#![tactic(auto)]

@@ -13,6 +13,7 @@ fn step_count(psc: u8, at: u64) -> u64
 }
 
 // Whether a blinker's output is lit at a step.
+#[tactic(auto, unfolding(crate::specs::Blinker::blinker_lit, crate::specs::Blinker::lit_below, crate::specs::Blinker::lit_from))]
 pub fn blinker_lit(mode: BlinkerMode, at: BlinkerSteps) -> bool
     ensures { result ≡ blinker_lit mode at.0 }
 {
@@ -25,6 +26,7 @@ pub fn blinker_lit(mode: BlinkerMode, at: BlinkerSteps) -> bool
 }
 
 // The lit steps among the first x of a blinker's output.
+#[tactic(auto, unfolding(crate::specs::Blinker::blinker_lit))]
 fn blinker_count(mode: BlinkerMode, x: u64) -> u64
     ensures { result ≡ lit_ticks (blinker_lit mode) 0 x }
 {

@@ -14,6 +14,7 @@ pub fn least(a: u64, b: u64) -> u64
 }
 
 // Lit for the first `on` ticks of each `period`.
+#[tactic(auto, unfolding(crate::specs::laws::Count::duty_count))]
 pub fn duty(period: u64, on: u64, x: u64) -> u64
     requires { (0 < period) × (on ≤ period) }
     ensures { result ≡ duty_count period on x }

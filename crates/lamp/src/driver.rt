@@ -34,6 +34,7 @@ pub fn driver_mode(ledout: u8, dmblnk: bool, pwm: u8, grppwm: u8, grpfreq: u8) -
 }
 
 // Individual brightness and a group test.
+#[tactic(auto, unfolding(crate::specs::Driver::individual, crate::specs::Driver::grouped))]
 fn grouped(group: Group, pwm: u8, at: u64) -> bool
     requires { 0 < group.period }
     ensures { result ≡ grouped group.period group.on pwm at }
@@ -86,6 +87,7 @@ pub fn blink_group(grppwm: u8, grpfreq: u8) -> Group
 }
 
 // Whether a driver's output is lit at a tick.
+#[tactic(auto, unfolding(crate::specs::Driver::driver_lit, crate::specs::Driver::individual))]
 pub fn driver_lit(mode: DriverMode, at: DriverTicks) -> bool
     ensures { result ≡ driver_lit mode at.0 }
 {
@@ -103,6 +105,7 @@ pub fn driver_lit(mode: DriverMode, at: DriverTicks) -> bool
 }
 
 // The lit ticks among the first x of a driver's output.
+#[tactic(auto, unfolding(crate::specs::Driver::driver_lit))]
 fn driver_count(mode: DriverMode, x: u64) -> u64
     ensures { result ≡ lit_ticks (driver_lit mode) 0 x }
 {

@@ -88,6 +88,7 @@ fn asleep_shared(group: Group, at: DriverTicks, ticks: DriverTicks) -> Shared
 }
 
 // For all outputs of a driver, by the group registers that they share.
+#[tactic(auto, unfolding(crate::specs::laws::Shared::shared_of))]
 pub fn driver_shared(
     awake: bool,
     dmblnk: bool,
@@ -125,6 +126,7 @@ fn stretch_of(ledout: u8, s: Shared) -> Stretch
 }
 
 // The lit ticks of an output, by its two LEDOUT bits and its brightness, which is a byte.
+#[tactic(auto, unfolding(crate::specs::laws::Shared::shared_lit))]
 pub fn shared_lit(ledout: u8, pwm: u8, s: Shared) -> DriverTicks
     requires { Fits ledout s }
     ensures result_value { result.0 ≡ shared_lit ledout pwm s }

@@ -1,4 +1,5 @@
 // A bus over standard input and output: an answer line for each event line.
+#![tactic(auto)]
 ghost use Rattle.std.specs.Prelude.{◌≡◌, ◌≤◌, length};
 ghost use Rattle.script.specs.Twin.{fresh_state};
 ghost use Rattle.stream.specs.Stream.{Stands, Answers};

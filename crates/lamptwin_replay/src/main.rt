@@ -1,4 +1,5 @@
 // A recording over standard input and output: an answer line for each stamped event line.
+#![tactic(auto)]
 ghost use Rattle.std.specs.Prelude.{◌≡◌, ◌≤◌, length};
 ghost use Rattle.script.specs.Twin.{fresh_replay};
 ghost use Rattle.stream.specs.Stream.{Stands, Answers};

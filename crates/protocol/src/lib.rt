@@ -1,4 +1,5 @@
 // What one device does on the bus: at START, at each byte, at a get and at STOP.
+#![tactic(auto)]
 pub mod put;
 pub mod read;
 pub mod selection;
@@ -7,7 +8,7 @@ pub mod stop;
 pub mod write;
 
 // What goes over the bus for all devices alike: a byte put by the master, a get with its acknowledge.
-#[derive(Drop)]
+#[derive(Clone, Copy)]
 pub enum Signal {
     Start,
     Stop,

@@ -1,8 +1,10 @@
 // The number of a refusal: the least of those that hold.
+#![tactic(auto)]
 ghost use Rattle.std.specs.Prelude.{◌≡◌};
 ghost use Rattle.refusals.specs.Refusals.{refuse, least, number_of};
 
 // The lesser of two codes, where 0 is none.
+#[tactic(auto, unfolding(crate::specs::Refusals::least))]
 pub fn least(a: u64, b: u64) -> u64
     ensures { result ≡ least a b }
 {

@@ -32,14 +32,14 @@ pub fn since(clock: Clock, at: u32) -> DriverTicks
 }
 
 // A device once the time has passed, and whether it had room for it.
-#[derive(Drop)]
+#[derive(Clone, Copy)]
 struct Waited {
     device: Device,
     fits: bool,
 }
 
 // A bus likewise.
-#[derive(Drop)]
+#[derive(Clone, Copy)]
 pub struct Passed {
     pub bus: Bus,
     pub overrun: bool,

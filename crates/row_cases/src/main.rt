@@ -1,4 +1,5 @@
 // The calls on lent records, a line for each: what is handed in, and what comes back. Control bytes are in hexadecimal.
+#![tactic(auto)]
 mod records;
 mod row_totals;
 mod rows;

@@ -7,7 +7,7 @@ use bus::{Change, Event, Question, Request, SignalEvent};
 use text::{Field, at_end, number_of, read_field, read_key, start};
 
 // The eleven shapes.
-#[derive(Drop)]
+#[derive(Clone, Copy)]
 pub enum Shape {
     Add,
     Start,
@@ -50,7 +50,7 @@ fn shape_of(line: &[u8]) -> Shape
 }
 
 // The numbers of a line, the latest last, and whether it is read to its end.
-#[derive(Drop)]
+#[derive(Clone, Copy)]
 pub struct Numbers {
     pub whole: bool,
     pub a: u64,

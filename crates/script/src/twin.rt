@@ -16,14 +16,14 @@ use replay::{Clock, Entry};
 use text::{Field, line_end, number_of, start};
 
 // What the lines of a log are: events, or events with a stamp before each, and then the clock.
-#[derive(Drop)]
+#[derive(Clone, Copy)]
 pub enum Form {
     Plain,
     Stamped(Clock),
 }
 
 // What is kept from line to line: how many lines are answered, the bus after them, and the form of the lines.
-#[derive(Drop)]
+#[derive(Clone, Copy)]
 pub struct State {
     pub lines: u64,
     pub bus: Bus,
@@ -31,7 +31,7 @@ pub struct State {
 }
 
 // How far a run got: bytes read, bytes written, and the state after the lines answered.
-#[derive(Drop)]
+#[derive(Clone, Copy)]
 pub struct Ran {
     pub read: usize,
     pub wrote: usize,
@@ -39,7 +39,7 @@ pub struct Ran {
 }
 
 // What a line comes to: a question for a device that stands on the bus, any other request, or an entry of a recording.
-#[derive(Drop)]
+#[derive(Clone, Copy)]
 pub enum Heard {
     Question { dev: u64, question: Question },
     Request(Request),

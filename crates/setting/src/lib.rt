@@ -1,4 +1,5 @@
 // How a board is set up: its chip, its address and the values of its writable registers, as a text and as a record.
+#![tactic(auto)]
 use chip::Chip;
 
 pub mod proved_callers;
@@ -8,7 +9,7 @@ mod write;
 pub use read::{Reading, read_setting};
 
 // The values of the chip's writable registers come first, in map order; those behind them are 0.
-#[derive(Drop)]
+#[derive(Clone, Copy)]
 pub struct Setting {
     pub chip: Chip,
     pub addr: u8,

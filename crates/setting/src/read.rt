@@ -11,14 +11,14 @@ use refusals::or_refused;
 use text::{Field, at_end, number_of, read_field, read_key, start};
 
 // What a text says: the number that it is refused with, or 0, and its setting, which counts where that is 0.
-#[derive(Drop)]
+#[derive(Clone, Copy)]
 pub struct Reading {
     pub code: u64,
     pub setting: Setting,
 }
 
 // How far the lines of registers are read, and the values in them.
-#[derive(Drop)]
+#[derive(Clone, Copy)]
 struct Registers {
     field: Field,
     values: [u8; 28],

@@ -5,7 +5,7 @@ ghost use Rattle.store.specs.Calls.{answered, bytes, fresh_reply, save_reply, re
 use crate::places::{PLACES, SIZE};
 use text::proved_callers::write_text;
 
-#[derive(Drop)]
+#[derive(Clone, Copy)]
 pub struct Answer {
     pub code: u64,
     pub value: u64,

@@ -13,7 +13,7 @@ use refusals::or_refused;
 use setting::Setting;
 
 // Of a store of the right shape: the greatest version of the table, and the first free place.
-#[derive(Drop)]
+#[derive(Clone, Copy)]
 pub struct Room {
     pub sound: bool,
     pub newest: u64,

@@ -12,7 +12,7 @@ use script::State;
 const MOST: usize = 72057594037927936;
 
 // Whether there is more to come, all is answered, or a read or a write failed.
-#[derive(Drop)]
+#[derive(Clone, Copy)]
 pub enum Status {
     Open,
     Ended,
@@ -20,7 +20,7 @@ pub enum Status {
 }
 
 // What is carried from read to read. The first `have` bytes of the buffer wait for the rest of their line.
-#[derive(Drop)]
+#[derive(Clone, Copy)]
 pub struct Stream {
     pub have: usize,
     pub input: Input,
@@ -29,7 +29,7 @@ pub struct Stream {
 }
 
 // How far the lines are answered.
-#[derive(Drop)]
+#[derive(Clone, Copy)]
 pub struct Drained {
     pub read: usize,
     pub output: Output,

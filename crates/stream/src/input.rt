@@ -5,7 +5,7 @@ ghost use Rattle.stream.specs.Input.{nothing_read, Receives};
 use libc::STDIN_FILENO;
 
 // How many bytes were read, and whether the last read found the end or failed. Only this module makes one.
-#[derive(Drop)]
+#[derive(Clone, Copy)]
 pub struct Input {
     read: usize,
     ended: bool,

@@ -1,4 +1,5 @@
 // A stream of lines, plain or stamped: standard input to standard output, an answer for each line.
+#![tactic(auto)]
 mod buffers;
 mod input;
 mod output;

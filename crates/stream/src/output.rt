@@ -7,7 +7,7 @@ use script::State;
 
 // The state after the lines whose answers were handed over, how many bytes these were, and whether a write failed. Only this module
 // makes one, so that answers go out one after the other.
-#[derive(Drop)]
+#[derive(Clone, Copy)]
 pub struct Output {
     state: State,
     sent: usize,

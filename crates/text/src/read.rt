@@ -3,7 +3,7 @@ ghost use Rattle.std.specs.Prelude.{◌≡◌, List, ℕ, ◌-◌, get_or, drop}
 ghost use Rattle.text.specs.Read.{rest_at, number_in, is_end, is_digit, takes_digit, after_key, key_of, number_of, digits_of, field_of};
 
 // How far a line is read, with the number last read; or it is of another shape.
-#[derive(Drop)]
+#[derive(Clone, Copy)]
 pub enum Field {
     At { at: usize, number: u64 },
     Mismatch,
@@ -90,6 +90,7 @@ fn skip(line: &[u8], key: &[u8], at: usize, number: u64) -> Field
 }
 
 // Past a key; the number stays.
+#[tactic(auto, unfolding(crate::specs::Read::key_of))]
 pub fn read_key(line: &[u8], from: Field, key: &[u8]) -> Field
     ensures { rest_at line.now result ≡ key_of key.now (rest_at line.now from) }
 {
@@ -118,6 +119,7 @@ fn digits(line: &[u8], at: usize, first: u64) -> Field
 }
 
 // Past a number.
+#[tactic(auto, unfolding(crate::specs::Read::number_of))]
 fn read_number(line: &[u8], from: Field) -> Field
     ensures { rest_at line.now result ≡ number_of (rest_at line.now from) }
 {
@@ -134,6 +136,7 @@ fn read_number(line: &[u8], from: Field) -> Field
 }
 
 // Past a key and a number.
+#[tactic(auto, unfolding(crate::specs::Read::field_of))]
 pub fn read_field(line: &[u8], from: Field, key: &[u8]) -> Field
     ensures { rest_at line.now result ≡ field_of key.now (rest_at line.now from) }
 {

@@ -1,4 +1,5 @@
 // A device with the totals of its outputs, and a wait of it.
+#![tactic(auto)]
 use device::Device;
 
 mod limits;
@@ -11,7 +12,7 @@ pub use records::{is_legal, record_exceeds, totals_fit};
 
 // A device, and for each of its outputs how long it was lit and how long unlit, in the unit of the device's kind, over all its waits.
 // Numbers past the chip's outputs are 0.
-#[derive(Drop)]
+#[derive(Clone, Copy)]
 pub struct Record {
     pub device: Device,
     pub lit: [u64; 16],

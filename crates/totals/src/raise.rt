@@ -34,7 +34,7 @@ fn driver_raise(d: Device, ticks: DriverTicks, lit: &mut [u64], unlit: &mut [u64
 }
 
 // The lit steps of a blinker's output, for each value of its two LS bits.
-#[derive(Drop)]
+#[derive(Clone, Copy)]
 struct Lits {
     zero: BlinkerSteps,
     one: BlinkerSteps,

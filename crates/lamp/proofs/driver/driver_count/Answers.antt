@@ -1,0 +1,20 @@
+-- `lamp::driver::driver_count` meets its contract: each mode has its closed form.
+use Rattle.std.proofs.Common.{arith}
+use Rattle.lamp.specs.Driver.{driver_lit}
+use Rattle.lamp.specs.laws.Count.{from_zero, never, every, individual_counts}
+use Rattle.lamp.proofs.driver.driver_count.Goals as goal
+
+pub returns-in-Off : goal.returns-in-Off
+unfolding driver_lit
+returns-in-Off c =
+    rw c.enum_told-1.given.1 (from_zero never c.args.x)
+
+pub returns-in-On : goal.returns-in-On
+unfolding driver_lit
+returns-in-On c =
+    rw c.enum_told-in-On-1.given.1 (from_zero every c.args.x)
+
+pub returns-in-Individual : goal.returns-in-Individual
+unfolding driver_lit
+returns-in-Individual c =
+    rw (c.mode-1.given.1, c.individual.ensures) (from_zero (individual_counts (omega arith)) c.args.x)
