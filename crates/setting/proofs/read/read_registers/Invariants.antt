@@ -1,5 +1,5 @@
 -- `read_registers`: the first i lines are read.
-use Rattle.std.specs.Prelude.{◌+◌, ◌-◌, ◌≤◌, ◌≡◌, ◌++◌, length, drop}
+use Rattle.std.specs.Prelude.{◌-◌, ◌≤◌, ◌≡◌, ◌++◌, length, drop}
 use Rattle.setting.specs.Reader.{registers_of, values_of}
 use Rattle.text.specs.Read.{rest_at}
 use Rattle.setting.proofs.read.read_registers.Given as goal

@@ -12,10 +12,10 @@ returns c =
     reading_is t (rest_at t c.read_line-kind.result) (rest_at t c.read_line-address.result) (rest_at t c.read_registers-registers.result.field) _ _ _ _ _ _ _ _ _ _
     (rw first.start.ensures at c.read_line-kind.ensures)
     c.read_line-address.ensures
-    (c.chip_numbered-found.ensures ∙ ap chip_numbered (c.number_of_lem.ensures t))
+    (c.chip_numbered-found.ensures ∙ ap chip_numbered (c.number_of.ensures t))
     c.known_chip-chip.ensures
-    c.read_registers-registers.ensures.0
-    c.read_registers-registers.ensures.1
+    c.read_registers-registers.ensures.field_value
+    c.read_registers-registers.ensures.values_value
     (c.says_unknown.ensures t)
     (c.says_barred.ensures t)
     c.at_end.ensures

@@ -8,16 +8,14 @@ use Rattle.setting.proofs.write.write_register.Goals as goal
 
 pub write_line-requires : goal.write_line-requires
 write_line-requires c =
-    omega (arith, c.write_decimal-b.ensures.0.stop, few_digits 1 c.args.register (omega arith) (omega arith), c.write_text-a.ensures.stop)
+    omega (arith, c.write_decimal-b.ensures.written.stop, few_digits 1 c.args.register (omega arith) (omega arith), c.write_text-a.ensures.stop)
 
--- clause written of the whole below
 pub returns-clause-written : goal.returns-clause-written
 returns-clause-written c =
-    let w = then c.write_text-a.ensures (then c.write_decimal-b.ensures.0 c.write_line.ensures) in
-    (w, omega (arith, w.stop, line_few c.args.register c.args.value [] c.requires.0 c.ranges.value.fits))
+    let w = then c.write_text-a.ensures (then c.write_decimal-b.ensures.written c.write_line.ensures) in
+    w
 
--- clause upper_bound of the whole below
 pub returns-clause-upper_bound : goal.returns-clause-upper_bound
 returns-clause-upper_bound c =
-    let w = then c.write_text-a.ensures (then c.write_decimal-b.ensures.0 c.write_line.ensures) in
-    (w, omega (arith, w.stop, line_few c.args.register c.args.value [] c.requires.0 c.ranges.value.fits))
+    let w = then c.write_text-a.ensures (then c.write_decimal-b.ensures.written c.write_line.ensures) in
+    omega (arith, w.stop, line_few c.args.register c.args.value [] c.requires.0 c.ranges.value.fits)
