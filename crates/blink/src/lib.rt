@@ -1,5 +1,6 @@
 // When the two blinks of a blinker begin together again.
 #![tactic(auto)]
+
 ghost use Rattle.std.specs.Prelude.{◌≡◌, ◌≤◌, ◌<◌};
 ghost use Rattle.basics.specs.Divisors.{gcd_of, lcm_of};
 ghost use Rattle.blink.specs.Start.{common_start};

@@ -1,5 +1,6 @@
 // What is fixed by the kind of a chip: its number of outputs, register map, addresses, control bytes, pointer moves and reset values.
 #![tactic(auto)]
+
 mod addresses;
 pub mod control;
 mod kinds;

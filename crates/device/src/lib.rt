@@ -1,5 +1,6 @@
 // One device of the bus, by value: its record, and what the record says of itself.
 #![tactic(auto)]
+
 use chip::Chip;
 
 mod fields;

@@ -2,7 +2,7 @@
 -- answers, or of the rest of the wait; from 0 on for a device that is added; the same for a recording. No other event changes a total, and totals change no answer but a wait's 6.
 use Rattle.std.specs.Prelude.{◌≡◌, true, false, ℕ, ◌+◌, ◌≤◌, ◌<◌, leb, eqb, set}
 use Rattle.std.proofs.Math.Path.{refl, ap}
-use Rattle.std.proofs.Common.{sym, ◌∙◌, true≢false, leb-true, lt-ltb, leb-false, eqb-true, ne_eqb}
+use Rattle.std.proofs.Common.{sym, ◌∙◌, true≢false, leb-true, leb-false, eqb-true, ne_eqb}
 use mathlib.Core.List.{List, [], ◌∷◌}
 use native.Mathlib.Omega.{arith}
 use Rattle.std.proofs.lemmas.Bool.{not-false, eqb-false}

@@ -1,5 +1,6 @@
 // When an output is lit, and for how many ticks of a window, in each mode of each chip.
 #![tactic(auto)]
+
 mod blinker;
 mod count;
 mod driver;

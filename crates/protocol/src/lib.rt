@@ -1,5 +1,6 @@
 // What one device does on the bus: at START, at each byte, at a get and at STOP.
 #![tactic(auto)]
+
 pub mod put;
 pub mod read;
 pub mod selection;

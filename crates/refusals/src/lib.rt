@@ -1,5 +1,6 @@
 // The number of a refusal: the least of those that hold.
 #![tactic(auto)]
+
 ghost use Rattle.std.specs.Prelude.{◌≡◌};
 ghost use Rattle.refusals.specs.Refusals.{refuse, least, number_of};
 

@@ -1,5 +1,6 @@
 // The text: event lines, plain and stamped, answer lines, a run over the lines of a lent buffer, and over a whole log.
 #![tactic(auto)]
+
 mod answer;
 mod log;
 mod parser;

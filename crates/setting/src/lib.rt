@@ -1,5 +1,6 @@
 // How a board is set up: its chip, its address and the values of its writable registers, as a text and as a record.
 #![tactic(auto)]
+
 use chip::Chip;
 
 pub mod proved_callers;

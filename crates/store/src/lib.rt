@@ -1,5 +1,6 @@
 // A store of table settings with versions, in a buffer that the caller lends: 256 places of 40 bytes (docs/STORE.md).
 #![tactic(auto)]
+
 mod bytes;
 mod calls;
 mod kept;

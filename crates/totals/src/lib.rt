@@ -1,5 +1,6 @@
 // A device with the totals of its outputs, and a wait of it.
 #![tactic(auto)]
+
 use device::Device;
 
 mod limits;

@@ -1,5 +1,5 @@
 -- A sequence of events on a bus and on the device alone.
-use Rattle.std.specs.Prelude.{◌≡◌, true, false, cond, ℕ, ◌+◌}
+use Rattle.std.specs.Prelude.{◌≡◌, true, false, cond, ℕ}
 use Rattle.std.proofs.Math.Path.{refl}
 use Rattle.std.proofs.Common.{sym, ap, ◌∙◌, arith}
 use mathlib.Core.List.{List, [], ◌∷◌, ◌++◌, append_assoc}

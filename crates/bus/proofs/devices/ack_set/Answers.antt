@@ -1,7 +1,6 @@
 -- The loop: the set of the first i positions is gathered, and the weight is that of position i.
 use Rattle.std.proofs.Common.{arith, rules}
 use Rattle.basics.specs.laws.Bits.{mask_none, mask_more, mask_room, weight_more, weight_most}
-use borrow.Author.Rules.{rules}
 use Rattle.bus.proofs.devices.ack_set.Goals as goal
 
 pub loop-i-init : goal.loop-i-init

@@ -1,7 +1,6 @@
 -- The loop: the first i devices have taken the signal.
 use Rattle.std.proofs.Common.{rules}
 use Rattle.basics.specs.laws.First.{map_none, map_more}
-use borrow.Author.Rules.{rules}
 use Rattle.bus.proofs.devices.all_after.Goals as goal
 
 pub loop-i-init : goal.loop-i-init

@@ -2,7 +2,6 @@
 use Rattle.std.proofs.Common.{sym, ◌∙◌, rules}
 use Rattle.basics.specs.laws.Below.{below_none, below_more, below_fails}
 use Rattle.bus.specs.laws.Records.{fits_at, fits_lent}
-use borrow.Author.Rules.{rules}
 use Rattle.bus.proofs.devices.all_fit.Goals as goal
 
 pub loop-i-init : goal.loop-i-init

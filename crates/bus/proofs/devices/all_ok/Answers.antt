@@ -2,7 +2,6 @@
 use Rattle.std.proofs.Common.{sym, ◌∙◌, rules}
 use Rattle.basics.specs.laws.First.{all_none, all_more, all_fails}
 use Rattle.device.specs.WellFormed.{well_formed}
-use borrow.Author.Rules.{rules}
 use Rattle.bus.proofs.devices.all_ok.Goals as goal
 
 pub loop-i-init : goal.loop-i-init

@@ -2,7 +2,6 @@
 use Rattle.std.proofs.Common.{rules}
 use Rattle.std.proofs.Math.Path.{refl}
 use Rattle.bus.specs.laws.Records.{given_back}
-use borrow.Author.Rules.{rules}
 use Rattle.bus.proofs.devices.cleared.Goals as goal
 
 pub returns : goal.returns

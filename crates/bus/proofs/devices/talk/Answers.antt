@@ -2,7 +2,6 @@
 use Rattle.std.proofs.Common.{rules}
 use Rattle.basics.specs.laws.First.{and_none, and_more}
 use Rattle.protocol.specs.Read.{talk_of}
-use borrow.Author.Rules.{rules}
 use Rattle.bus.proofs.devices.talk.Goals as goal
 
 pub loop-i-init : goal.loop-i-init

@@ -11,7 +11,6 @@ use Rattle.bus.specs.laws.Place.{position_there, levels_byte, placed_is}
 use Rattle.bus.specs.laws.Units.{own_wait}
 use Rattle.device.specs.laws.Wait.{own_is_own, own_amount}
 use Rattle.refusals.specs.Refusals.{code_of}
-use borrow.Author.Rules.{rules}
 use Rattle.bus.proofs.place.change_at.Goals as goal
 
 pub wait_at-requires : goal.wait_at-requires
@@ -31,7 +30,7 @@ returns-in-Oe c =
     let unlit_long : length c.args.bus.unlit ≡ 128 = search (rules, as_long) in
     let code = rw (c.is_driver.ensures, c.device_at-d.ensures) at c.level_code-code.ensures in
     rw c.in-Oe.is
-    (c.placed.ensures ∙ placed_is _ _ _ _ _ c.requires code (lit_long) (unlit_long) (λ z. rw (c.with_oe.ensures, c.device_at-d.ensures) refl))
+    (c.placed.ensures ∙ placed_is _ _ _ _ _ c.requires code lit_long unlit_long (λ z. rw (c.with_oe.ensures, c.device_at-d.ensures) refl))
 
 pub returns-in-Ext : goal.returns-in-Ext
 unfolding change_refusals after_change
@@ -40,7 +39,7 @@ returns-in-Ext c =
     let unlit_long : length c.args.bus.unlit ≡ 128 = search (rules, as_long) in
     let code = rw (c.is_driver-in-Ext.ensures, c.device_at-d.ensures) at c.level_code-code-in-Ext.ensures in
     rw c.in-Ext.is
-    (c.placed-in-Ext.ensures ∙ placed_is _ _ _ _ _ c.requires code (lit_long) (unlit_long) (λ z. rw (c.with_levels.ensures, c.device_at-d.ensures, levels_byte c.in-Ext.level c.is_driver-in-Ext.result (sym c.level_code-code-in-Ext.ensures ∙ z)) refl))
+    (c.placed-in-Ext.ensures ∙ placed_is _ _ _ _ _ c.requires code lit_long unlit_long (λ z. rw (c.with_levels.ensures, c.device_at-d.ensures, levels_byte c.in-Ext.level c.is_driver-in-Ext.result (sym c.level_code-code-in-Ext.ensures ∙ z)) refl))
 
 pub returns-in-Reset : goal.returns-in-Reset
 unfolding change_refusals after_change code_of
@@ -48,4 +47,4 @@ returns-in-Reset c =
     let lit_long : length c.args.bus.lit ≡ 128 = search (rules, as_long) in
     let unlit_long : length c.args.bus.unlit ≡ 128 = search (rules, as_long) in
     rw c.in-Reset.is
-    (c.placed-in-Reset.ensures ∙ placed_is _ _ _ _ _ c.requires refl (lit_long) (unlit_long) (λ z. rw (c.after_reset.ensures, c.device_at-d.ensures) refl))
+    (c.placed-in-Reset.ensures ∙ placed_is _ _ _ _ _ c.requires refl lit_long unlit_long (λ z. rw (c.after_reset.ensures, c.device_at-d.ensures) refl))

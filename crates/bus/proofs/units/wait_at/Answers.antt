@@ -14,7 +14,6 @@ use Rattle.refusals.specs.laws.Refusals.{accepted}
 use Rattle.totals.specs.Wait.{exceeds_for, waited_for}
 use Rattle.totals.specs.declared.Record.{Record}
 use Rattle.totals.specs.laws.Wait.{waited_long}
-use borrow.Author.Rules.{rules}
 use Rattle.bus.proofs.units.wait_at.Goals as goal
 
 pub wait-after-requires : goal.wait-after-requires
@@ -22,12 +21,12 @@ wait-after-requires c =
     let lit_long : length c.args.bus.lit ≡ 128 = search (rules, as_long) in
     let unlit_long : length c.args.bus.unlit ≡ 128 = search (rules, as_long) in
     let devices_long : length c.args.bus.devices ≡ 8 = search (rules, as_long) in
-    let is-there : c.args.dev < length c.args.bus.devices = omega (arith, devices_long, c.requires.0) in
-    let code_is : c.wait_code-code.result ≡ code_of (wait_refusals (record_at c.args.bus c.args.dev) c.args.duration) = c.wait_code-code.ensures ∙ ap (λ (r : Record). code_of (wait_refusals r c.args.duration)) (record_lent _ c.args.bus c.args.dev (lit_long) (unlit_long) c.requires.0 (is-there)) in
-    let fits = (accepted (wait_refusals (record_at c.args.bus c.args.dev) c.args.duration) refl (sym (code_is) ∙ c.if-code-eq0.true)).0 in (
-      lent_long c.args.bus.lit c.args.dev (lit_long) c.requires.0,
-      lent_long c.args.bus.unlit c.args.dev (unlit_long) c.requires.0,
-      ap (λ (r : Record). exceeds_for r c.args.duration) (record_lent _ c.args.bus c.args.dev (lit_long) (unlit_long) c.requires.0 (is-there)) ∙ fits,
+    let is_there : c.args.dev < length c.args.bus.devices = omega (arith, devices_long, c.requires.0) in
+    let code_is : c.wait_code-code.result ≡ code_of (wait_refusals (record_at c.args.bus c.args.dev) c.args.duration) = c.wait_code-code.ensures ∙ ap (λ (r : Record). code_of (wait_refusals r c.args.duration)) (record_lent _ c.args.bus c.args.dev lit_long unlit_long c.requires.0 is_there) in
+    let fits = (accepted (wait_refusals (record_at c.args.bus c.args.dev) c.args.duration) refl (sym code_is ∙ c.if-code-eq0.true)).0 in (
+      lent_long c.args.bus.lit c.args.dev lit_long c.requires.0,
+      lent_long c.args.bus.unlit c.args.dev unlit_long c.requires.0,
+      ap (λ (r : Record). exceeds_for r c.args.duration) (record_lent _ c.args.bus c.args.dev lit_long unlit_long c.requires.0 is_there) ∙ fits,
     )
 
 pub returns-then-code-eq0 : goal.returns-then-code-eq0
@@ -36,12 +35,12 @@ returns-then-code-eq0 c =
     let lit_long : length c.args.bus.lit ≡ 128 = search (rules, as_long) in
     let unlit_long : length c.args.bus.unlit ≡ 128 = search (rules, as_long) in
     let devices_long : length c.args.bus.devices ≡ 8 = search (rules, as_long) in
-    let is-there : c.args.dev < length c.args.bus.devices = omega (arith, devices_long, c.requires.0) in
-    let code_is : c.wait_code-code.result ≡ code_of (wait_refusals (record_at c.args.bus c.args.dev) c.args.duration) = c.wait_code-code.ensures ∙ ap (λ (r : Record). code_of (wait_refusals r c.args.duration)) (record_lent _ c.args.bus c.args.dev (lit_long) (unlit_long) c.requires.0 (is-there)) in
+    let is_there : c.args.dev < length c.args.bus.devices = omega (arith, devices_long, c.requires.0) in
+    let code_is : c.wait_code-code.result ≡ code_of (wait_refusals (record_at c.args.bus c.args.dev) c.args.duration) = c.wait_code-code.ensures ∙ ap (λ (r : Record). code_of (wait_refusals r c.args.duration)) (record_lent _ c.args.bus c.args.dev lit_long unlit_long c.requires.0 is_there) in
     let a = c.args in
-    let is = c.wait-after.ensures ∙ ap (λ (r : Record). waited_for r a.duration) (record_lent _ a.bus a.dev (lit_long) (unlit_long) c.requires.0 (is-there)) in
-    let back = record_back a.bus a.dev c.requires.0 (lit_long) (unlit_long) c.wait-after.result _ _ (waited_for (record_at c.args.bus c.args.dev) a.duration) (waited_long (record_at c.args.bus c.args.dev) a.duration (part_long 16 a.dev a.bus.lit) (part_long 16 a.dev a.bus.unlit)) is in
-    answered _ _ _ _ _ (placed_code a.bus a.dev c.wait_code-code.result (wait_refusals (record_at c.args.bus c.args.dev) a.duration) c.requires.1 (code_is)) c.if-code-eq0.true (c.done.ensures ∙ rw back refl)
+    let is = c.wait-after.ensures ∙ ap (λ (r : Record). waited_for r a.duration) (record_lent _ a.bus a.dev lit_long unlit_long c.requires.0 is_there) in
+    let back = record_back a.bus a.dev c.requires.0 lit_long unlit_long c.wait-after.result _ _ (waited_for (record_at c.args.bus c.args.dev) a.duration) (waited_long (record_at c.args.bus c.args.dev) a.duration (part_long 16 a.dev a.bus.lit) (part_long 16 a.dev a.bus.unlit)) is in
+    answered _ _ _ _ _ (placed_code a.bus a.dev c.wait_code-code.result (wait_refusals (record_at c.args.bus c.args.dev) a.duration) c.requires.1 code_is) c.if-code-eq0.true (c.done.ensures ∙ rw back refl)
 
 pub returns-else-code-eq0 : goal.returns-else-code-eq0
 unfolding wait_for_reply
@@ -49,6 +48,6 @@ returns-else-code-eq0 c =
     let lit_long : length c.args.bus.lit ≡ 128 = search (rules, as_long) in
     let unlit_long : length c.args.bus.unlit ≡ 128 = search (rules, as_long) in
     let devices_long : length c.args.bus.devices ≡ 8 = search (rules, as_long) in
-    let is-there : c.args.dev < length c.args.bus.devices = omega (arith, devices_long, c.requires.0) in
-    let code_is : c.wait_code-code.result ≡ code_of (wait_refusals (record_at c.args.bus c.args.dev) c.args.duration) = c.wait_code-code.ensures ∙ ap (λ (r : Record). code_of (wait_refusals r c.args.duration)) (record_lent _ c.args.bus c.args.dev (lit_long) (unlit_long) c.requires.0 (is-there)) in
-    turned_away _ _ _ _ _ (placed_code c.args.bus c.args.dev c.wait_code-code.result (wait_refusals (record_at c.args.bus c.args.dev) c.args.duration) c.requires.1 (code_is)) c.if-code-eq0.false c.refused.ensures
+    let is_there : c.args.dev < length c.args.bus.devices = omega (arith, devices_long, c.requires.0) in
+    let code_is : c.wait_code-code.result ≡ code_of (wait_refusals (record_at c.args.bus c.args.dev) c.args.duration) = c.wait_code-code.ensures ∙ ap (λ (r : Record). code_of (wait_refusals r c.args.duration)) (record_lent _ c.args.bus c.args.dev lit_long unlit_long c.requires.0 is_there) in
+    turned_away _ _ _ _ _ (placed_code c.args.bus c.args.dev c.wait_code-code.result (wait_refusals (record_at c.args.bus c.args.dev) c.args.duration) c.requires.1 code_is) c.if-code-eq0.false c.refused.ensures

@@ -5,7 +5,6 @@ use Rattle.std.specs.Prelude.{◌≡◌, ℕ, ◌<◌, eqb, get_or}
 use Rattle.basics.specs.laws.Bits.{mask_none, mask_more, mask_room, mask_byte, weight_more, weight_most}
 use Rattle.basics.specs.laws.Table.{at}
 use Rattle.device.specs.Output.{input_bit, blinker_outputs}
-use borrow.Author.Rules.{rules}
 use Rattle.device.proofs.output.input_byte.Goals as goal
 
 output-at : (i : ℕ) → i < 8 → get_or blinker_outputs i 0 ≡ i

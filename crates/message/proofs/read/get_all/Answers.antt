@@ -2,7 +2,6 @@
 use Rattle.std.proofs.Common.{arith, rules}
 use Rattle.message.specs.laws.Gets.{gets_none, run_more, got_more, gets_done}
 use Rattle.message.specs.laws.Values.{get_value}
-use borrow.Author.Rules.{rules}
 use Rattle.message.proofs.read.get_all.Goals as goal
 
 pub loop-i-init : goal.loop-i-init

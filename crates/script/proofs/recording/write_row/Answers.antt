@@ -2,7 +2,6 @@
 use Rattle.std.proofs.Common.{rules}
 use Rattle.script.specs.Totals.{total_at}
 use Rattle.script.specs.laws.Totals.{parts_of, total_is, row_none, row_more}
-use borrow.Author.Rules.{rules}
 use Rattle.script.proofs.recording.write_row.Goals as goal
 
 pub loop-k-init : goal.loop-k-init

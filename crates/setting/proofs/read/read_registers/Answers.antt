@@ -5,7 +5,6 @@ use Rattle.std.specs.Prelude.{◌+◌}
 use Rattle.chip.specs.laws.Registers.{writables_few}
 use Rattle.setting.specs.laws.Reader.{register_byte_lem, registers_none, values_none, registers_more, values_more}
 use Rattle.text.specs.Read.{rest_at, number_in}
-use borrow.Author.Rules.{rules}
 use Rattle.setting.proofs.read.read_registers.Goals as goal
 
 pub loop-i-init : goal.loop-i-init

@@ -2,7 +2,6 @@
 use Rattle.std.proofs.Common.{arith, rules}
 use Rattle.setting.specs.laws.Setting.{lines_next}
 use Rattle.text.specs.laws.Write.{then, write_length}
-use borrow.Author.Rules.{rules}
 use Rattle.setting.proofs.write.write_registers.Goals as goal
 
 pub loop-i-preserved : goal.loop-i-preserved

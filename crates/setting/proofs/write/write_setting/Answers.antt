@@ -5,7 +5,6 @@ use Rattle.chip.specs.laws.Registers.{writables_few}
 use Rattle.setting.specs.laws.Setting.{line_end, setting_written}
 use Rattle.text.specs.Text.{text}
 use Rattle.text.specs.laws.Decimal.{few_digits}
-use borrow.Author.Rules.{rules}
 use Rattle.setting.proofs.write.write_setting.Goals as goal
 
 pub write_line-b-requires : goal.write_line-b-requires

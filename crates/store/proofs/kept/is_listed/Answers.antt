@@ -3,7 +3,6 @@ use Rattle.std.proofs.Common.{sym, ap, ◌∙◌, rules}
 use Rattle.std.specs.Prelude.{◌<◌, not}
 use Rattle.basics.specs.laws.Below.{below_none, below_more, below_fails}
 use Rattle.store.specs.Kept.{pairs, is_pair, is_listed}
-use borrow.Author.Rules.{rules}
 use Rattle.store.proofs.kept.is_listed.Goals as goal
 
 pub loop-i-init : goal.loop-i-init

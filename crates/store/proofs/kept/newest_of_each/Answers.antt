@@ -2,7 +2,6 @@
 use Rattle.std.proofs.Common.{◌∙◌, arith, rules}
 use Rattle.std.proofs.lemmas.List.{get_or-replicate}
 use Rattle.store.specs.laws.Layout.{place_lent, newest_none, newest_more}
-use borrow.Author.Rules.{rules}
 use Rattle.store.proofs.kept.newest_of_each.Goals as goal
 
 pub loop-i-init : goal.loop-i-init

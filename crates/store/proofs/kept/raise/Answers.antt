@@ -2,7 +2,6 @@
 use Rattle.std.proofs.Common.{arith, rules}
 use Rattle.std.specs.Prelude.{length}
 use Rattle.store.specs.laws.Only.{raised_own, raised_none}
-use borrow.Author.Rules.{rules}
 use Rattle.store.proofs.kept.raise.Goals as goal
 
 pub returns-then-at-greatest : goal.returns-then-at-greatest

@@ -4,7 +4,6 @@ use Rattle.std.specs.Prelude.{◌≡◌, not}
 use Rattle.basics.specs.laws.Below.{below_none, below_more, first_none, first_here}
 use Rattle.store.specs.Layout.{version_in, place}
 use Rattle.store.specs.laws.Layout.{place_lent}
-use borrow.Author.Rules.{rules}
 use Rattle.store.proofs.places.free_place.Goals as goal
 
 pub loop-i-init : goal.loop-i-init

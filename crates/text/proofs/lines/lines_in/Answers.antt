@@ -11,15 +11,15 @@ pub overflow_add-n : goal.overflow_add-n
 overflow_add-n c =
     let ends : (c.loop-i.i < c.if-input-i-lt240.end) × (c.if-input-i-lt240.end ≤ length c.args.input.now) × (c.if-input-i-lt240.end - c.loop-i.i ≤ 240) = let more = c.loop-i-test.true in
     elim c.if-input-i-lt240.branch [ then-input-i-lt240 w ↦ (omega (arith, w.end-is, more), omega (arith, w.end-is), omega (arith, w.end-is, w.if-input-i-lt240.true)) | else-input-i-lt240 w ↦ (omega (arith, w.end-is), omega (arith, w.end-is, w.if-input-i-lt240.false), omega (arith, w.end-is)) ] in
-    let on : c.loop-i.n + c.feeds_in.result + feeds (drop c.if-input-i-lt240.end c.args.input.now) ≡ feeds c.args.input.now = feeds_on c.args.input.now c.loop-i.i c.if-input-i-lt240.end c.loop-i.n c.feeds_in.result (omega (arith, (ends).0)) c.loop-i.invariant.0 c.feeds_in.ensures in
+    let on : c.loop-i.n + c.feeds_in.result + feeds (drop c.if-input-i-lt240.end c.args.input.now) ≡ feeds c.args.input.now = feeds_on c.args.input.now c.loop-i.i c.if-input-i-lt240.end c.loop-i.n c.feeds_in.result (omega (arith, ends.0)) c.loop-i.invariant.0 c.feeds_in.ensures in
     omega (arith, on, feeds_few c.args.input.now)
 
 pub loop-i-preserved : goal.loop-i-preserved
 loop-i-preserved c =
     let ends : (c.loop-i.i < c.if-input-i-lt240.end) × (c.if-input-i-lt240.end ≤ length c.args.input.now) × (c.if-input-i-lt240.end - c.loop-i.i ≤ 240) = let more = c.loop-i-test.true in
     elim c.if-input-i-lt240.branch [ then-input-i-lt240 w ↦ (omega (arith, w.end-is, more), omega (arith, w.end-is), omega (arith, w.end-is, w.if-input-i-lt240.true)) | else-input-i-lt240 w ↦ (omega (arith, w.end-is), omega (arith, w.end-is, w.if-input-i-lt240.false), omega (arith, w.end-is)) ] in
-    let on : c.loop-i.n + c.feeds_in.result + feeds (drop c.if-input-i-lt240.end c.args.input.now) ≡ feeds c.args.input.now = feeds_on c.args.input.now c.loop-i.i c.if-input-i-lt240.end c.loop-i.n c.feeds_in.result (omega (arith, (ends).0)) c.loop-i.invariant.0 c.feeds_in.ensures in
-    (on, (ends).1)
+    let on : c.loop-i.n + c.feeds_in.result + feeds (drop c.if-input-i-lt240.end c.args.input.now) ≡ feeds c.args.input.now = feeds_on c.args.input.now c.loop-i.i c.if-input-i-lt240.end c.loop-i.n c.feeds_in.result (omega (arith, ends.0)) c.loop-i.invariant.0 c.feeds_in.ensures in
+    (on, ends.1)
 
 pub overflow_add-result : goal.overflow_add-result
 overflow_add-result c =

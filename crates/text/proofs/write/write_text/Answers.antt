@@ -1,7 +1,6 @@
 -- `write_text`: the bytes before `i` are pasted.
 use Rattle.std.proofs.Common.{length-set, rules}
 use Rattle.text.proofs.Writing.{write_more}
-use borrow.Author.Rules.{rules}
 use Rattle.text.proofs.write.write_text.Goals as goal
 
 pub loop-i-preserved : goal.loop-i-preserved

@@ -2,7 +2,6 @@
 use Rattle.std.proofs.Common.{sym, ◌∙◌, rules}
 use Rattle.basics.specs.laws.Below.{below_none, below_more, below_fails}
 use Rattle.totals.specs.Totals.{totals_within}
-use borrow.Author.Rules.{rules}
 use Rattle.totals.proofs.limits.all_within.Goals as goal
 
 pub loop-i-init : goal.loop-i-init

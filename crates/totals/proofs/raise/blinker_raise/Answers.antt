@@ -6,7 +6,6 @@ use Rattle.device.specs.Output.{lit_of}
 use Rattle.device.specs.laws.Output.{lit_few}
 use Rattle.totals.specs.laws.Raised.{raised_none, raised_more}
 use Rattle.totals.specs.laws.Wait.{lits_give, room_now}
-use borrow.Author.Rules.{rules}
 use Rattle.totals.proofs.raise.blinker_raise.Goals as goal
 
 pub loop-i-init : goal.loop-i-init
