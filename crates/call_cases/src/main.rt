@@ -1,6 +1,7 @@
 // Calls that no line of the text program reaches: whole messages, events by number and the blink-start question. A line for each;
 // bytes are in hexadecimal, codes, values and counts in decimal.
 #![tactic(auto)]
+
 mod events;
 mod messages;
 mod starts;

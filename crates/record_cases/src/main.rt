@@ -1,6 +1,7 @@
 // Records as a caller can hand them in, in each stage of a message and with bits that no write sets, a line for each. Bytes are in
 // hexadecimal, codes in decimal.
 #![tactic(auto)]
+
 mod records;
 mod stages;
 

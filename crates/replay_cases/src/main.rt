@@ -1,5 +1,6 @@
 // Entries of a recording, a line for each: the time between stamps, the time to drivers and not to blinkers, and buses handed in.
 #![tactic(auto)]
+
 use bus::{Bus, Change, Event, Question, SignalEvent};
 use cases::{line, setup};
 use chip::Chip;

@@ -1,5 +1,6 @@
 // The calls on lent records, a line for each: what is handed in, and what comes back. Control bytes are in hexadecimal.
 #![tactic(auto)]
+
 mod records;
 mod row_totals;
 mod rows;
