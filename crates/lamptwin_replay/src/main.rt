@@ -5,12 +5,14 @@ ghost use Rattle.std.specs.Prelude.{◌≡◌, ◌≤◌, length};
 ghost use Rattle.script.specs.Twin.{fresh_replay};
 ghost use Rattle.stream.specs.Stream.{Stands, Answers};
 
+use std::io::Read;
 use stream::Stream;
 use stream::proved_callers::answer_from;
 
 // From an empty bus on, with the clock not set yet.
 fn answer_all(
-    rt: &(impl Input + Print + Eprint),
+    rt: &(impl Print + Eprint),
+    reader: &mut impl Read,
     read: &mut usize,
     sent: &mut usize,
     buf: &mut [u8],
@@ -21,13 +23,14 @@ fn answer_all(
     ensures stands { Stands read.new sent.new result }
 {
     let first = script::fresh_replay();
-    answer_from(rt, first, read, sent, buf, out)
+    answer_from(rt, reader, first, read, sent, buf, out)
 }
 
 fn main(rt: HostRuntime) {
+    let mut reader = rt.stdin();
     let mut buf = io::large_buffer();
     let mut out = io::large_buffer();
     let mut read: usize = 0;
     let mut sent: usize = 0;
-    answer_all(&rt, &mut read, &mut sent, &mut buf, &mut out);
+    answer_all(&rt, &mut reader, &mut read, &mut sent, &mut buf, &mut out);
 }

@@ -7,7 +7,7 @@ use crate::input::{Input, receive};
 use crate::output::{Output, hand_over};
 use crate::{input, output};
 use script::State;
-use std::io;
+use std::io::Read;
 
 // A proved loop has to end, and nothing says that an input does: it ends after 2^56 bytes, more than any run reads. So no count wraps.
 const MOST: usize = 72057594037927936;
@@ -165,7 +165,8 @@ fn finish(
 
 // Reads once, and answers each line that is complete; at the end of the input, the last line. A read that fails is no end.
 fn take_turn(
-    rt: &(impl io::Input + Print + Eprint),
+    rt: &(impl Print + Eprint),
+    reader: &mut impl Read,
     s: Stream,
     read: &mut usize,
     sent: &mut usize,
@@ -179,7 +180,7 @@ fn take_turn(
 {
     let have = s.have;
     let before = s.input;
-    let input = receive(rt, read, before, have, buf);
+    let input = receive(rt, reader, read, before, have, buf);
     if input::has_failed(input) {
         let output = s.output;
         return Stream {
@@ -222,7 +223,8 @@ fn goes_on(s: Stream) -> bool
 
 // Reads and answers, from the state first on, up to the end of the input or a failed call. `read` and `sent` count all that was.
 pub fn answer_from(
-    rt: &(impl io::Input + Print + Eprint),
+    rt: &(impl Print + Eprint),
+    reader: &mut impl Read,
     first: State,
     read: &mut usize,
     sent: &mut usize,
@@ -235,7 +237,7 @@ pub fn answer_from(
 {
     let mut s = begin(first);
     while goes_on(s) {
-        s = take_turn(rt, s, read, sent, buf, out);
+        s = take_turn(rt, reader, s, read, sent, buf, out);
     }
     s
 }

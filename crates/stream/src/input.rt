@@ -3,7 +3,6 @@ ghost use Rattle.std.specs.Prelude.{◌≡◌, ◌+◌, ◌-◌, ◌^◌, ◌<�
 ghost use Rattle.stream.specs.Input.{nothing_read, Receives};
 
 use crate::failure::tell;
-use std::io;
 use std::io::Read;
 
 // How many bytes were read, and whether the last read found the end or failed. Only this module makes one.
@@ -53,7 +52,8 @@ pub fn since(before: Input, input: Input) -> usize
 // The one place that reads, behind the first `have` bytes; nothing at the end of the input. A read that fails is told of at once.
 // `place` is how far the input is read, and only moves here: an input from before an earlier read is not taken.
 pub fn receive(
-    rt: &(impl io::Input + Eprint),
+    rt: &impl Eprint,
+    reader: &mut impl Read,
     place: &mut usize,
     before: Input,
     have: usize,
@@ -63,7 +63,7 @@ pub fn receive(
     ensures receives { Receives before have buf.old result buf.new }
     ensures place_after { place.new ≡ result.read }
 {
-    match rt.reader().read(&mut buf[have..]) {
+    match reader.read(&mut buf[have..]) {
         Ok(n) => {
             *place = before.read + n;
             Input {
