@@ -1,5 +1,6 @@
 // The static library for C and Rust: what library/include/lamptwin.h declares. A slice arrives as a pointer and a length.
 #![tactic(auto)]
+
 ghost use Rattle.std.specs.Prelude.{◌≡◌, length};
 ghost use Rattle.text.specs.Lines.{lines_of};
 ghost use Rattle.text.specs.Run.{RunsLog};

@@ -7,6 +7,7 @@ use crate::input::{Input, receive};
 use crate::output::{Output, hand_over};
 use crate::{input, output};
 use script::State;
+use std::io::Read;
 
 // A proved loop has to end, and nothing says that an input does: it ends after 2^56 bytes, more than any run reads. So no count wraps.
 const MOST: usize = 72057594037927936;
@@ -36,7 +37,13 @@ pub struct Drained {
 }
 
 // Answers every complete line of text.
-fn drain(before: Output, text: &[u8], place: &mut usize, out: &mut [u8]) -> Drained
+fn drain(
+    rt: &(impl Print + Eprint),
+    before: Output,
+    text: &[u8],
+    place: &mut usize,
+    out: &mut [u8],
+) -> Drained
     requires { (76 ≤ length out.old) × (before.sent + 76 * length text.now < 2 ^ 64) × (place.old ≡ before.sent) }
     ensures drains { Drains before text.now result }
     ensures place_after { place.new ≡ result.output.sent }
@@ -53,7 +60,7 @@ fn drain(before: Output, text: &[u8], place: &mut usize, out: &mut [u8]) -> Drai
         let upto = from + read;
         let wrote = r.wrote;
         let next = r.state;
-        output = hand_over(place, output, &text[from..upto], &out[0..wrote], next);
+        output = hand_over(rt, place, output, &text[from..upto], &out[0..wrote], next);
         from = upto;
         if output::has_failed(output) {
             return Drained { read: from, output };
@@ -93,7 +100,14 @@ fn status_after(output: Output, status: Status) -> Status
 }
 
 // Answers each line that is complete in the bytes kept and those read behind them. What is kept then, with what is to come, stands for them.
-fn feed(s: Stream, input: Input, sent: &mut usize, buf: &mut [u8], out: &mut [u8]) -> Stream
+fn feed(
+    rt: &(impl Print + Eprint),
+    s: Stream,
+    input: Input,
+    sent: &mut usize,
+    buf: &mut [u8],
+    out: &mut [u8],
+) -> Stream
     requires { Waits s buf.old × Reads s input × (length buf.old ≡ 65536) × (76 ≤ length out.old) × (sent.old ≡ s.output.sent) }
     ensures feeds { Feeds s (input.read - s.input.read) buf.old result buf.new }
     ensures stands { Stands input.read sent.new result }
@@ -101,7 +115,7 @@ fn feed(s: Stream, input: Input, sent: &mut usize, buf: &mut [u8], out: &mut [u8
     let earlier = s.input;
     let before = s.output;
     let end = s.have + input::since(earlier, input);
-    let d = drain(before, &buf[0..end], sent, out);
+    let d = drain(rt, before, &buf[0..end], sent, out);
     let read = d.read;
     let have = keep(buf, read, end);
     let after = d.output;
@@ -115,7 +129,14 @@ fn feed(s: Stream, input: Input, sent: &mut usize, buf: &mut [u8], out: &mut [u8
 }
 
 // The end of the input: a last line that lacks its line feed is answered as if it had one.
-fn finish(s: Stream, input: Input, sent: &mut usize, buf: &mut [u8], out: &mut [u8]) -> Stream
+fn finish(
+    rt: &(impl Print + Eprint),
+    s: Stream,
+    input: Input,
+    sent: &mut usize,
+    buf: &mut [u8],
+    out: &mut [u8],
+) -> Stream
     requires { Waits s buf.old × Ends s input × (length buf.old ≡ 65536) × (76 ≤ length out.old) × (sent.old ≡ s.output.sent) }
     ensures finishes { Finishes s buf.old result buf.new }
     ensures stands { Stands input.read sent.new result }
@@ -131,7 +152,7 @@ fn finish(s: Stream, input: Input, sent: &mut usize, buf: &mut [u8], out: &mut [
         };
     }
     buf[have] = 10;
-    let d = drain(before, &buf[0..have + 1], sent, out);
+    let d = drain(rt, before, &buf[0..have + 1], sent, out);
     let output = d.output;
     let status = status_after(output, Status::Ended);
     Stream {
@@ -144,6 +165,8 @@ fn finish(s: Stream, input: Input, sent: &mut usize, buf: &mut [u8], out: &mut [
 
 // Reads once, and answers each line that is complete; at the end of the input, the last line. A read that fails is no end.
 fn take_turn(
+    rt: &(impl Print + Eprint),
+    reader: &mut impl Read,
     s: Stream,
     read: &mut usize,
     sent: &mut usize,
@@ -157,7 +180,7 @@ fn take_turn(
 {
     let have = s.have;
     let before = s.input;
-    let input = receive(read, before, have, buf);
+    let input = receive(rt, reader, read, before, have, buf);
     if input::has_failed(input) {
         let output = s.output;
         return Stream {
@@ -168,9 +191,9 @@ fn take_turn(
         };
     }
     if input::has_ended(input) {
-        return finish(s, input, sent, buf, out);
+        return finish(rt, s, input, sent, buf, out);
     }
-    feed(s, input, sent, buf, out)
+    feed(rt, s, input, sent, buf, out)
 }
 
 fn begin(first: State) -> Stream
@@ -200,6 +223,8 @@ fn goes_on(s: Stream) -> bool
 
 // Reads and answers, from the state first on, up to the end of the input or a failed call. `read` and `sent` count all that was.
 pub fn answer_from(
+    rt: &(impl Print + Eprint),
+    reader: &mut impl Read,
     first: State,
     read: &mut usize,
     sent: &mut usize,
@@ -212,7 +237,7 @@ pub fn answer_from(
 {
     let mut s = begin(first);
     while goes_on(s) {
-        s = take_turn(s, read, sent, buf, out);
+        s = take_turn(rt, reader, s, read, sent, buf, out);
     }
     s
 }

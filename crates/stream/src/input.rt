@@ -2,7 +2,8 @@
 ghost use Rattle.std.specs.Prelude.{◌≡◌, ◌+◌, ◌-◌, ◌^◌, ◌<◌, ◌≤◌, length, ltb};
 ghost use Rattle.stream.specs.Input.{nothing_read, Receives};
 
-use libc::STDIN_FILENO;
+use crate::failure::tell;
+use std::io::Read;
 
 // How many bytes were read, and whether the last read found the end or failed. Only this module makes one.
 #[derive(Clone, Copy)]
@@ -50,25 +51,34 @@ pub fn since(before: Input, input: Input) -> usize
 
 // The one place that reads, behind the first `have` bytes; nothing at the end of the input. A read that fails is told of at once.
 // `place` is how far the input is read, and only moves here: an input from before an earlier read is not taken.
-pub fn receive(place: &mut usize, before: Input, have: usize, buf: &mut [u8]) -> Input
+pub fn receive(
+    rt: &impl Eprint,
+    reader: &mut impl Read,
+    place: &mut usize,
+    before: Input,
+    have: usize,
+    buf: &mut [u8],
+) -> Input
     requires { (place.old ≡ before.read) × (have ≤ length buf.old) × (before.read + length buf.old < 2 ^ 64) }
     ensures receives { Receives before have buf.old result buf.new }
     ensures place_after { place.new ≡ result.read }
 {
-    let got = libc::read(STDIN_FILENO, &mut buf[have..]);
-    let n = io::count(got, &buf[have..]);
-    *place = before.read + n;
-    if got < 0 {
-        os::fail(b"lamptwin: input");
-        return Input {
-            read: before.read + n,
-            ended: false,
-            failed: true,
-        };
-    }
-    Input {
-        read: before.read + n,
-        ended: n == 0,
-        failed: false,
+    match reader.read(&mut buf[have..]) {
+        Ok(n) => {
+            *place = before.read + n;
+            Input {
+                read: before.read + n,
+                ended: n == 0,
+                failed: false,
+            }
+        }
+        Err(error) => {
+            tell(rt, "lamptwin: input", error);
+            Input {
+                read: before.read,
+                ended: false,
+                failed: true,
+            }
+        }
     }
 }

@@ -2,7 +2,7 @@
 ghost use Rattle.std.specs.Prelude.{◌≡◌, ◌+◌, length};
 ghost use Rattle.stream.specs.Output.{nothing_sent, Sends};
 
-use libc::STDOUT_FILENO;
+use crate::failure::tell;
 use script::State;
 
 // The state after the lines whose answers were handed over, how many bytes these were, and whether a write failed. Only this module
@@ -40,6 +40,7 @@ pub fn has_failed(output: Output) -> bool
 // The one place that writes: the text is the answers to the lines, and `next` the state after them. A write that fails is told of at once.
 // `place` is how much was handed over, and only moves here: an output from before an earlier write is not taken.
 pub fn hand_over(
+    rt: &(impl Print + Eprint),
     place: &mut usize,
     before: Output,
     lines: &[u8],
@@ -50,14 +51,17 @@ pub fn hand_over(
     ensures state_value { (result.state ≡ next) × (result.sent ≡ before.sent + length text.now) }
     ensures place_after { place.new ≡ result.sent }
 {
-    let done = io::write_all(STDOUT_FILENO, text);
+    let failed = match rt.write_all(text) {
+        Ok(()) => false,
+        Err(error) => {
+            tell(rt, "lamptwin: output", error);
+            true
+        }
+    };
     *place = before.sent + text.len();
-    if !done {
-        os::fail(b"lamptwin: output");
-    }
     Output {
         state: next,
         sent: before.sent + text.len(),
-        failed: !done,
+        failed,
     }
 }
