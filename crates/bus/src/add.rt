@@ -33,6 +33,7 @@ fn added(bus: Bus, found: Lookup, address: u8) -> Bus
     }
 }
 
+#[tactic(auto, unfolding(crate::specs::Events::step_reply, crate::specs::Events::step_refusals, crate::specs::Events::step_done))]
 pub fn add(ok: bool, bus: Bus, chip: u64, address: u64) -> Reply
     requires { ok ≡ bus_ok bus }
     ensures { result ≡ step_reply bus (Add chip address) }

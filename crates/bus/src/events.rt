@@ -5,6 +5,7 @@ ghost use Rattle.bus.specs.Events.{event_numbered};
 use crate::{Change, Event, Question, Request, SignalEvent};
 
 // 1 add, 2 start, 3 put, 4 get, 5 stop, 6 wait, 7 oe, 8 ext, 9 reset, 10 lit, 11 pin.
+#[tactic(auto, unfolding(crate::specs::Events::event_numbered))]
 pub fn event_numbered(number: u64, x: u64, y: u64, z: u64) -> Request
     ensures { result ≡ event_numbered number x y z }
 {

@@ -31,6 +31,7 @@ fn wait_code(d: Device, lit: &[u64], unlit: &[u64], duration: Duration) -> u64
 }
 
 // At a position that has no number of its own. The totals of the device are lent to its wait.
+#[tactic(auto, unfolding(crate::specs::Units::wait_for_reply))]
 pub fn wait_at(bus: Bus, dev: usize, duration: Duration) -> Reply
     requires { (dev < 8) × (code_of (place_refusals bus dev) ≡ 0) }
     ensures { result ≡ wait_for_reply bus dev duration }
@@ -53,6 +54,7 @@ pub fn wait_at(bus: Bus, dev: usize, duration: Duration) -> Reply
     }
 }
 
+#[tactic(auto, unfolding(crate::specs::Units::wait_for_reply))]
 pub fn wait_for(ok: bool, bus: Bus, dev: u64, duration: Duration) -> Reply
     requires { ok ≡ bus_ok bus }
     ensures { result ≡ wait_for_reply bus dev duration }
@@ -95,6 +97,7 @@ pub fn lit_value(d: Device, out: u8, duration: Duration) -> u64
     }
 }
 
+#[tactic(auto, unfolding(crate::specs::Units::lit_for_reply))]
 pub fn lit_for(ok: bool, bus: Bus, dev: u64, out: u64, duration: Duration) -> Reply
     requires { ok ≡ bus_ok bus }
     ensures { result ≡ lit_for_reply bus dev out duration }

@@ -33,6 +33,7 @@ fn ledout_of(d: Device, out: u8) -> u8
     pair(registers::in_effect(d, group), out)
 }
 
+#[tactic(auto, unfolding(crate::specs::Output::driver_output))]
 fn driver_output(d: Device, out: u8) -> DriverMode
     ensures { result ≡ driver_output d (outputs_of d.chip) out }
 {
@@ -107,6 +108,7 @@ pub fn blinker_by(d: Device, ls: u8) -> BlinkerMode
     blinker_mode(chip, ls, psc, pwm)
 }
 
+#[tactic(auto, unfolding(crate::specs::Output::blinker_output))]
 fn blinker_output(d: Device, out: u8) -> BlinkerMode
     ensures { result ≡ blinker_output d out }
 {
@@ -114,6 +116,7 @@ fn blinker_output(d: Device, out: u8) -> BlinkerMode
 }
 
 // The rules' "lit", at the present count.
+#[tactic(auto, unfolding(crate::specs::Output::lamp_lit))]
 pub fn is_lit(d: Device, out: u8) -> bool
     ensures { result ≡ lit_now d out }
 {
@@ -126,6 +129,7 @@ pub fn is_lit(d: Device, out: u8) -> bool
 }
 
 // The question "lit" of a driver, in its ticks: those lit among the next so many; asleep, all of them or none.
+#[tactic(auto, unfolding(crate::specs::Output::lamp_lit, crate::specs::Output::lit_of))]
 pub fn driver_lit(d: Device, out: u8, ticks: DriverTicks) -> DriverTicks
     ensures { result.0 ≡ lit_for d out (Ticks ticks) }
 {
@@ -146,6 +150,7 @@ pub fn driver_lit(d: Device, out: u8, ticks: DriverTicks) -> DriverTicks
 }
 
 // The same of a blinker, in its steps.
+#[tactic(auto, unfolding(crate::specs::Output::lamp_lit, crate::specs::Output::lit_of, crate::specs::Registers::is_awake))]
 pub fn blinker_lit(d: Device, out: u8, steps: BlinkerSteps) -> BlinkerSteps
     ensures { result.0 ≡ lit_for d out (Steps steps) }
 {
@@ -213,6 +218,7 @@ fn driver_pin(d: Device, lit: bool) -> u64
     }
 }
 
+#[tactic(auto, unfolding(crate::specs::Output::pin_of))]
 pub fn pin(d: Device, out: u8) -> u64
     ensures { result ≡ pin_of d out }
 {
@@ -239,6 +245,7 @@ fn input_weight(d: Device, i: u8, weight: u16) -> u16
 }
 
 // INPUT of a blinker.
+#[tactic(auto, unfolding(crate::specs::Output::input_byte))]
 pub fn input_byte(d: Device) -> u8
     ensures { result ≡ input_byte d }
 {

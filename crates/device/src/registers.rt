@@ -33,6 +33,7 @@ pub fn with_byte(registers: [u8; 28], register: usize, byte: u8) -> [u8; 28]
 }
 
 // The rules' "in effect".
+#[tactic(auto, unfolding(crate::specs::Registers::in_effect))]
 pub fn in_effect(d: Device, register: usize) -> u8
     ensures { result ≡ in_effect d register }
 {
@@ -53,6 +54,7 @@ pub fn is_sleep(mode1: u8) -> bool
 }
 
 // The rules' "awake": SLEEP 0; a blinker is always awake.
+#[tactic(auto, unfolding(crate::specs::Registers::is_awake))]
 pub fn is_awake(d: Device) -> bool
     ensures { result ≡ is_awake d }
 {

@@ -22,6 +22,7 @@ pub fn fresh(chip: Chip, address: u8) -> Device
     }
 }
 
+#[tactic(auto, unfolding(crate::specs::Reset::after_reset))]
 pub fn after_reset(d: Device) -> Device
     ensures { result ≡ after_reset d }
 {

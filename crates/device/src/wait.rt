@@ -28,6 +28,7 @@ pub fn is_own(chip: Chip, duration: Duration) -> bool
 }
 
 // Whether an awake driver's count would pass the limit.
+#[tactic(auto, unfolding(crate::specs::Wait::overruns))]
 pub fn driver_overruns(d: Device, ticks: DriverTicks) -> bool
     ensures { result ≡ overruns_for d (Ticks ticks) }
 {
@@ -44,6 +45,7 @@ pub fn driver_overruns(d: Device, ticks: DriverTicks) -> bool
 }
 
 // Whether a blinker's count would pass the limit.
+#[tactic(auto, unfolding(crate::specs::Wait::overruns, crate::specs::Registers::is_awake))]
 pub fn blinker_overruns(d: Device, steps: BlinkerSteps) -> bool
     ensures { result ≡ overruns_for d (Steps steps) }
 {
@@ -97,6 +99,7 @@ fn blinker_advanced(at: BlinkerSteps, steps: BlinkerSteps) -> BlinkerSteps
 }
 
 // Asleep a driver's count stands still.
+#[tactic(auto, unfolding(crate::specs::Wait::after_wait))]
 pub fn driver_after_wait(d: Device, ticks: DriverTicks) -> Device
     ensures { result ≡ after_wait_for d (Ticks ticks) }
 {
@@ -115,6 +118,7 @@ pub fn driver_after_wait(d: Device, ticks: DriverTicks) -> Device
     }
 }
 
+#[tactic(auto, unfolding(crate::specs::Wait::after_wait, crate::specs::Registers::is_awake))]
 pub fn blinker_after_wait(d: Device, steps: BlinkerSteps) -> Device
     ensures { result ≡ after_wait_for d (Steps steps) }
 {

@@ -4,6 +4,7 @@ ghost use Rattle.device.specs.WellFormed.{record_ok, is_write, is_read, stage_fi
 
 use crate::{Device, Phase, Stage};
 
+#[tactic(auto, unfolding(crate::specs::WellFormed::record_ok))]
 pub fn is_ok(d: Device) -> bool
     ensures { result ≡ record_ok d }
 {
@@ -58,6 +59,7 @@ fn stage_fits(phase: Phase, stage: Stage) -> bool
 }
 
 // Whether a record can stand on a bus in this phase.
+#[tactic(auto, unfolding(crate::specs::WellFormed::well_formed))]
 pub fn is_well_formed(phase: Phase, d: Device) -> bool
     ensures { result ≡ well_formed phase d }
 {

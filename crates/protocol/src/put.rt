@@ -19,6 +19,7 @@ fn is_selected(stage: Stage) -> bool
 }
 
 // The device after the byte.
+#[tactic(auto, unfolding(crate::specs::Put::after_put))]
 pub fn after_put(phase: Phase, byte: u8, d: Device) -> Device
     ensures { result ≡ after_put phase byte d }
 {
@@ -32,6 +33,7 @@ pub fn after_put(phase: Phase, byte: u8, d: Device) -> Device
 }
 
 // Whether the device acknowledges the byte.
+#[tactic(auto, unfolding(crate::specs::Put::acks_to))]
 pub fn acks(phase: Phase, byte: u8, d: Device) -> bool
     ensures { result ≡ acks_to phase byte d }
 {

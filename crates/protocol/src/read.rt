@@ -19,6 +19,7 @@ fn is_talking(stage: Stage) -> bool
 }
 
 // A register other than INPUT as it reads.
+#[tactic(auto, unfolding(crate::specs::Read::register_byte))]
 fn register_byte(d: Device) -> u8
     ensures { result ≡ register_byte d }
 {
@@ -28,6 +29,7 @@ fn register_byte(d: Device) -> u8
     chip::values::read(chip, d.control, device::registers::at(written, at))
 }
 
+#[tactic(auto, unfolding(crate::specs::Read::pointed_byte))]
 fn pointed_byte(d: Device) -> u8
     ensures { result ≡ pointed_byte d }
 {
@@ -42,6 +44,7 @@ fn pointed_byte(d: Device) -> u8
 }
 
 // What the device puts on the bus, the rules' "talking"; all ones where it does not talk.
+#[tactic(auto, unfolding(crate::specs::Read::talk_of))]
 pub fn talk(d: Device) -> u8
     ensures { result ≡ talk_of d }
 {
@@ -53,6 +56,7 @@ pub fn talk(d: Device) -> u8
     }
 }
 
+#[tactic(auto, unfolding(crate::specs::Read::after_talk))]
 fn after_talk(d: Device) -> Device
     ensures { result ≡ after_talk d }
 {
@@ -68,6 +72,7 @@ fn after_talk(d: Device) -> Device
 }
 
 // The device after a get with the master's ack.
+#[tactic(auto, unfolding(crate::specs::Read::after_get))]
 pub fn after_get(ack: bool, d: Device) -> Device
     ensures { result ≡ after_get ack d }
 {

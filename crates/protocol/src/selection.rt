@@ -11,6 +11,7 @@ pub fn after_start(d: Device) -> Device
     device::with_stage(d, Stage::Unselected)
 }
 
+#[tactic(auto, unfolding(crate::specs::Selection::own_address))]
 fn own_address(d: Device) -> u16
     ensures { result ≡ own_address d }
 {
@@ -49,6 +50,7 @@ fn any(a: bool, b: bool, c: bool, d: bool) -> bool
 }
 
 // ALLCALLADR with MODE1 bit 0; SUBADR1, 2, 3 with bits 3, 2, 1.
+#[tactic(auto, unfolding(crate::specs::Selection::answers_shared))]
 fn answers_shared(d: Device, address: u8) -> bool
     ensures { result ≡ answers_shared d (outputs_of d.chip) address }
 {
@@ -64,6 +66,7 @@ fn answers_shared(d: Device, address: u8) -> bool
     )
 }
 
+#[tactic(auto, unfolding(crate::specs::Selection::answers))]
 fn is_addressed(d: Device, address: u8) -> bool
     ensures { result ≡ answers d address }
 {
@@ -93,6 +96,7 @@ fn reset_call(d: Device, byte: u8) -> Stage
 }
 
 // The stage after the address byte.
+#[tactic(auto, unfolding(crate::specs::Selection::stage_after_address))]
 pub fn stage_after_address(d: Device, byte: u8) -> Stage
     ensures { result ≡ stage_after_address d byte }
 {

@@ -53,6 +53,7 @@ fn phase_after_put(phase: Phase, byte: u8) -> Phase
     }
 }
 
+#[tactic(auto, unfolding(crate::specs::Signals::phase_after_signal))]
 pub fn phase_after_signal(phase: Phase, signal: Signal) -> Phase
     ensures { result ≡ phase_after_signal phase signal }
 {
@@ -64,6 +65,7 @@ pub fn phase_after_signal(phase: Phase, signal: Signal) -> Phase
     }
 }
 
+#[tactic(auto, unfolding(crate::specs::Signals::after_signal))]
 pub fn after_signal(phase: Phase, signal: Signal, d: Device) -> Device
     ensures { result ≡ after_signal phase signal d }
 {

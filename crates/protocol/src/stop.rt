@@ -21,6 +21,7 @@ fn took_reset(stage: Stage) -> bool
 }
 
 // The copy in effect after a commit.
+#[tactic(auto, unfolding(crate::specs::Stop::committed))]
 fn committed(chip: Chip, written: [u8; 28], effective: [u8; 28]) -> [u8; 28]
     ensures { result ≡ committed (outputs_of chip) written effective }
 {
@@ -35,6 +36,7 @@ fn committed(chip: Chip, written: [u8; 28], effective: [u8; 28]) -> [u8; 28]
     next
 }
 
+#[tactic(auto, unfolding(crate::specs::Stop::after_commit))]
 fn after_commit(d: Device) -> Device
     ensures { result ≡ after_commit d }
 {
@@ -55,6 +57,7 @@ fn after_commit(d: Device) -> Device
     }
 }
 
+#[tactic(auto, unfolding(crate::specs::Stop::after_stop))]
 pub fn after_stop(d: Device) -> Device
     ensures { result ≡ after_stop d }
 {

@@ -9,6 +9,7 @@ ghost use Rattle.protocol.specs.Write.{after_control, new_byte, effective_after_
 use device::{Device, Stage};
 
 // The control byte.
+#[tactic(auto, unfolding(crate::specs::Write::after_control))]
 fn after_control(byte: u8, d: Device) -> Device
     ensures { result ≡ after_control byte d }
 {
@@ -29,6 +30,7 @@ fn register(d: Device) -> usize
     chip::control::register(chip, d.control) as usize
 }
 
+#[tactic(auto, unfolding(crate::specs::Write::new_byte))]
 fn new_byte(byte: u8, d: Device) -> u8
     ensures { result ≡ new_byte byte d }
 {
@@ -54,6 +56,7 @@ fn takes_effect(d: Device) -> bool
     }
 }
 
+#[tactic(auto, unfolding(crate::specs::Write::effective_after_data))]
 fn effective_after_data(byte: u8, d: Device) -> [u8; 28]
     ensures { result ≡ effective_after_data byte d }
 {
@@ -65,6 +68,7 @@ fn effective_after_data(byte: u8, d: Device) -> [u8; 28]
     }
 }
 
+#[tactic(auto, unfolding(crate::specs::Write::wakes))]
 fn wakes(byte: u8, d: Device) -> bool
     ensures { result ≡ wakes byte d }
 {
@@ -84,6 +88,7 @@ fn wakes(byte: u8, d: Device) -> bool
     }
 }
 
+#[tactic(auto, unfolding(crate::specs::Write::count_after_data))]
 fn count_after_data(byte: u8, d: Device) -> u64
     ensures { result ≡ count_after_data byte d }
 {
@@ -91,6 +96,7 @@ fn count_after_data(byte: u8, d: Device) -> u64
 }
 
 // A data byte.
+#[tactic(auto, unfolding(crate::specs::Write::after_data))]
 fn after_data(byte: u8, d: Device) -> Device
     ensures { result ≡ after_data byte d }
 {
@@ -128,6 +134,7 @@ fn after_call_byte(due: u8, byte: u8, d: Device, next: Stage) -> Device
     }
 }
 
+#[tactic(auto, unfolding(crate::specs::Write::after_byte))]
 pub fn after_byte(byte: u8, d: Device) -> Device
     ensures { result ≡ after_byte byte d }
 {
@@ -143,6 +150,7 @@ pub fn after_byte(byte: u8, d: Device) -> Device
     }
 }
 
+#[tactic(auto, unfolding(crate::specs::Write::acks_data))]
 pub fn acks(byte: u8, d: Device) -> bool
     ensures { result ≡ acks_data byte d }
 {

@@ -35,6 +35,7 @@ fn is_read(field: Field) -> bool
 }
 
 // Past a key, a number and a line feed.
+#[tactic(auto, unfolding(crate::specs::Reader::line_of))]
 fn read_line(text: &[u8], from: Field, key: &[u8]) -> Field
     ensures { rest_at text.now result ≡ line_of key.now (rest_at text.now from) }
 {

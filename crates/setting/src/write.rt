@@ -29,6 +29,7 @@ fn write_register(register: u64, value: u8, out: &mut [u8], at: usize) -> usize
 }
 
 // A line for each of the first values.
+#[tactic(auto, unfolding(crate::specs::Setting::register_lines))]
 fn write_registers(first: u64, count: usize, values: [u8; 28], out: &mut [u8], at: usize) -> usize
     requires { (first + count ≤ 100) × (count ≤ 28) × (at + 8 * count + 25 ≤ length out.old) }
     ensures { Written out.old at (register_lines first (take count values)) out.new result }

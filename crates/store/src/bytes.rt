@@ -30,6 +30,7 @@ fn low(x: u64) -> u8
     (x % 256) as u8
 }
 
+#[tactic(auto, unfolding(crate::specs::Layout::digits))]
 pub fn bytes_of(x: u64) -> [u8; 8]
     ensures { result ≡ digits 8 x }
 {

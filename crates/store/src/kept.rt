@@ -24,6 +24,7 @@ fn is_pair(list: &[u64], i: usize, table: u64, version: u64) -> bool
 }
 
 // Whether a version is listed, and whether all that are listed are held.
+#[tactic(auto, unfolding(crate::specs::Kept::is_listed))]
 fn is_listed(list: &[u64], table: u64, version: u64) -> bool
     ensures { result ≡ is_listed list.now table version }
 {
@@ -35,6 +36,7 @@ fn is_listed(list: &[u64], table: u64, version: u64) -> bool
     false
 }
 
+#[tactic(auto, unfolding(crate::specs::Kept::all_held))]
 fn all_held(store: &[u8], list: &[u64]) -> bool
     requires { length store.now ≡ store_size }
     ensures { result ≡ all_held list.now (saved_of store.now) }

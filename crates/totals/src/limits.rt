@@ -36,6 +36,7 @@ pub fn outputs(chip: Chip) -> usize
 }
 
 // The same for each of the first n outputs.
+#[tactic(auto, unfolding(crate::specs::Totals::totals_within))]
 fn all_within(n: usize, lit: &[u64], unlit: &[u64], more: u64) -> bool
     requires { (n ≤ length lit.now) × (n ≤ length unlit.now) }
     ensures { result ≡ totals_within n lit.now unlit.now more }

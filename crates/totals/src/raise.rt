@@ -92,6 +92,7 @@ fn blinker_raise(d: Device, steps: BlinkerSteps, lit: &mut [u64], unlit: &mut [u
 }
 
 // A wait that exceeds nothing: the device afterwards, and its totals where they are lent.
+#[tactic(auto, unfolding(crate::specs::Wait::waited))]
 pub fn wait(d: Device, duration: Duration, lit: &mut [u64], unlit: &mut [u64]) -> Device
     requires { (length lit.old ≡ 16) × (length unlit.old ≡ 16) × (exceeds_for (record_of d lit.old unlit.old) duration ≡ false) }
     ensures { record_of result lit.new unlit.new ≡ waited_for (record_of d lit.old unlit.old) duration }

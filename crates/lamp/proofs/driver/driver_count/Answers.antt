@@ -7,14 +7,14 @@ use Rattle.lamp.proofs.driver.driver_count.Goals as goal
 pub returns-in-Off : goal.returns-in-Off
 unfolding driver_lit
 returns-in-Off c =
-    rw c.enum_told-1.given.1 (from_zero never c.args.x)
+    rw c.in-Off.is (from_zero never c.args.x)
 
 pub returns-in-On : goal.returns-in-On
 unfolding driver_lit
 returns-in-On c =
-    rw c.enum_told-in-On-1.given.1 (from_zero every c.args.x)
+    rw c.in-On.is (from_zero every c.args.x)
 
 pub returns-in-Individual : goal.returns-in-Individual
 unfolding driver_lit
 returns-in-Individual c =
-    rw (c.mode-1.given.1, c.individual.ensures) (from_zero (individual_counts (omega arith)) c.args.x)
+    rw (c.in-Individual.is, c.individual.ensures) (from_zero (individual_counts (omega arith)) c.args.x)

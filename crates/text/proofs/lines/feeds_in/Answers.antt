@@ -1,15 +1,15 @@
 -- `feeds_in`: the line feeds so far, and those in what is left.
 use Rattle.std.proofs.Common.{arith, inl, inr, rules}
-use Rattle.std.specs.Prelude.{◌-◌}
 use Rattle.text.proofs.Scanning.{feeds_next, feeds_done}
 use Rattle.text.proofs.lines.feeds_in.Goals as goal
+use Rattle.text.proofs.lines.feeds_in.Goals.{then-part-i-eq10, else-part-i-eq10}
 
 pub loop-i-preserved : goal.loop-i-preserved
 loop-i-preserved c =
     (
       feeds_next c.args.part.now c.loop-i.i c.loop-i-test.true c.loop-i.n _ c.loop-i.invariant.0
-          (⊎_elim (λ t. inl (t.0.taken, t.1)) (λ t. inr (t.0.left, t.1)) c.if-part-i-eq10.branch),
-      ⊎_elim (λ t. omega (arith, t.1, c.loop-i.invariant.1)) (λ t. omega (arith, t.1, c.loop-i.invariant.1)) c.if-part-i-eq10.branch,
+          (elim c.if-part-i-eq10.branch [ then-part-i-eq10 w ↦ inl (w.if-part-i-eq10.true, w.n-is) | else-part-i-eq10 w ↦ inr (w.if-part-i-eq10.false, w.n-is) ]),
+      elim c.if-part-i-eq10.branch [ then-part-i-eq10 w ↦ omega (arith, w.n-is, c.loop-i.invariant.1) | else-part-i-eq10 w ↦ omega (arith, w.n-is, c.loop-i.invariant.1) ],
       search rules,
     )
 

@@ -1,6 +1,5 @@
 -- `line_end`: no line feed stands before `i`.
 use Rattle.std.proofs.Common.{sym, ◌∙◌}
-use Rattle.std.specs.Prelude.{◌-◌}
 use Rattle.text.proofs.Scanning.{end_here, end_on, end_none}
 use Rattle.text.proofs.lines.line_end.Goals as goal
 

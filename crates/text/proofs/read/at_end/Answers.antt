@@ -4,4 +4,4 @@ use Rattle.text.proofs.read.at_end.Goals as goal
 
 pub returns-in-At : goal.returns-in-At
 returns-in-At c =
-    let g = c.field-1.given in rw g.1 (end_at c.args.line.now g.0.0 0)
+    rw c.in-At.is (end_at c.args.line.now c.in-At.at c.in-At.number)

@@ -7,23 +7,17 @@ use Rattle.text.proofs.read.read_number.Goals as goal
 pub returns-then-is_digit : goal.returns-then-is_digit
 unfolding number_of
 returns-then-is_digit c =
-    let g = c.from-1.given in
-    let v = g.0 in
     let a = c.args in
-    simp (c.digits.ensures, c.value.ensures, g.1) (sym (first_digit a.line.now v.0 c.if-at-line.true (sym c.is_digit.ensures ∙ c.if-is_digit.true)))
+    simp (c.digits.ensures, c.value.ensures, c.in-At.is) (sym (first_digit a.line.now c.in-At.at c.if-at-line.true (sym c.is_digit.ensures ∙ c.if-is_digit.true)))
 
 pub returns-else-is_digit : goal.returns-else-is_digit
 unfolding number_of
 returns-else-is_digit c =
-    let g = c.from-1.given in
-    let v = g.0 in
     let a = c.args in
-    rw g.1 (sym (first_other a.line.now v.0 c.if-at-line.true (sym c.is_digit.ensures ∙ c.if-is_digit.false)))
+    rw c.in-At.is (sym (first_other a.line.now c.in-At.at c.if-at-line.true (sym c.is_digit.ensures ∙ c.if-is_digit.false)))
 
 pub returns-else-at-line : goal.returns-else-at-line
 unfolding number_of
 returns-else-at-line c =
-    let g = c.from-1.given in
-    let v = g.0 in
     let a = c.args in
-    rw g.1 (sym (first_none a.line.now v.0 c.if-at-line.false))
+    rw c.in-At.is (sym (first_none a.line.now c.in-At.at c.if-at-line.false))

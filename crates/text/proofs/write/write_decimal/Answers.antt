@@ -16,4 +16,4 @@ pub returns-clause-written : goal.returns-clause-written
 returns-clause-written c =
     let all : take (20 - c.loop-rest.first) (drop c.loop-rest.first (set c.loop-rest.digits c.loop-rest.first (48 + c.loop-rest.rest))) ≡ decimal c.args.n = let l = c.loop-rest in
     digits_all c.args.n l.digits l.first l.rest l.invariant.1 (omega (arith, l.invariant.0, l.invariant.1)) c.loop-rest-test.false l.invariant.2 in
-    digits_written c.args.out.now _ c.write_text.new.1.0 c.args.at c.args.n c.write_text.result (all) c.write_text.ensures
+    (digits_written c.args.out.now _ c.write_text.new.out c.args.at c.args.n c.write_text.result (all) c.write_text.ensures).0

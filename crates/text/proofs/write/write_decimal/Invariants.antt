@@ -1,5 +1,5 @@
 -- `write_decimal`: the last digits stand from the place after `first` on, and those before them are still to be put.
-use Rattle.std.specs.Prelude.{length, ◌≡◌, ◌-◌, ◌≤◌}
+use Rattle.std.specs.Prelude.{length, ◌≡◌, ◌≤◌}
 use Rattle.text.proofs.Writing.{Digits}
 use Rattle.text.proofs.write.write_decimal.Given as goal
 

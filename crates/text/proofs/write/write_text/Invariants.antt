@@ -1,5 +1,6 @@
 -- `write_text`: the bytes before `i` are pasted.
 use Rattle.std.specs.Prelude.{length, ◌≡◌, ◌-◌, ◌≤◌}
+use lib.Seq.{paste}
 use Rattle.text.proofs.write.write_text.Given as goal
 
 abbrev pub invariant-loop-i : goal.invariant-loop-i
