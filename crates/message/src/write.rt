@@ -41,6 +41,7 @@ fn write_done(bus: Bus, address: u64, bytes: &[u8]) -> Reply
     crate::sent::stop(put_all(addressed, bytes))
 }
 
+#[tactic(auto, unfolding(crate::specs::Write::write_reply))]
 pub fn write_message(bus: Bus, address: u64, bytes: &[u8]) -> Reply
     ensures { result ≡ write_reply bus address bytes.now }
 {

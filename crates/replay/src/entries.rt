@@ -32,6 +32,7 @@ fn clock_after(clock: Clock, at: u32, code: u64) -> Clock
     if code == 0 { Clock::At(at) } else { clock }
 }
 
+#[tactic(auto, unfolding(crate::specs::Replay::replayed))]
 pub fn step_of(ok: bool, bus: Bus, clock: Clock, entry: Entry) -> Replayed
     requires { ok ≡ bus_ok bus }
     ensures { result ≡ replayed bus clock entry }

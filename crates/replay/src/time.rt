@@ -13,6 +13,7 @@ use lamp::{DriverTicks, Duration};
 use totals::proved_callers::{exceeds, wait};
 
 // Later minus earlier, around the roll-over: the ticks from a to b, for whatever tick counts a and b the stamps are of.
+#[tactic(auto, unfolding(crate::specs::Time::between))]
 pub fn elapsed(later: u32, earlier: u32) -> DriverTicks
     ensures by_index { (a b : ℕ) → a ≤ b → b - a < 2 ^ 32 → earlier ≡ a % 2 ^ 32 → later ≡ b % 2 ^ 32 → result.0 ≡ b - a }
     ensures value { result ≡ record { 0 = between later earlier } }
@@ -118,6 +119,7 @@ fn wait_all(
 }
 
 // The bus once the time has passed, and whether some driver has no room for it. ok says whether it is well formed; one that is not stays.
+#[tactic(auto, unfolding(crate::specs::Time::after_time))]
 pub fn pass(ok: bool, ticks: DriverTicks, bus: Bus) -> Passed
     requires { ok ≡ bus_ok bus }
     ensures bus_value { result.bus ≡ after_time ticks bus }

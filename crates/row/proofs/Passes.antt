@@ -3,13 +3,13 @@
 --     Reach t zs x         from the row zs and the exchange x, t turns lead to the row and the reply that the contract names
 --     reached              `Reach` where the loop begins
 use mathlib.Core.Path.{◌≡◌, refl, sym, ap, ◌∙◌, subst}
-use Prim.Native.Nat.{ℕ, zero, suc, ◌+◌, ◌<◌, ◌≤◌}
+use Prim.Native.Nat.{ℕ, zero, suc, ◌+◌, ◌-◌, ◌<◌, ◌≤◌}
 use native.Mathlib.Numerals.{add-one}
 use native.Mathlib.Nat.{le_of_suc-le-suc, le_refl}
 use native.Mathlib.Omega.{arith}
-use mathlib.Core.Bool.{Bool, true, false, ◌&&◌, ◌||◌, and-true, and_assoc, cond}
+use mathlib.Core.Bool.{Bool, true, false, ◌&&◌, ◌||◌, or-true, and-true, and_assoc, cond}
 use mathlib.Core.List.{List, [], ◌∷◌, ◌++◌, append-nil}
-use lib.Dec.{ltb}
+use lib.Dec.{ltb, eqb}
 use lib.ListN.{length, length-map, get_or, set, take, drop, drop_of_length-le}
 use lib.Seq.{take_all}
 use borrow.Author.Tests.{lt-ltb, le-ltb, ltb-false, ne_eqb}
@@ -281,3 +281,65 @@ module _ (p : Phase) (e : SignalEvent) where
 
 pub reached : (xs : List Record) (p : Phase) (e : SignalEvent) → Reach xs p e (turns xs) xs (begin_of (length xs) p e)
 reached xs p e = elim (tested (ltb 8 (length xs))) [ holds h ↦ too_long xs p e h | fails h ↦ signal p e xs h ]
+
+-- ---- the loop
+
+-- the turns that an exchange has left, in this pass and in the second
+abbrev pub left : Exchange → ℕ
+left x = cond x.taken (x.length - x.index) (x.length + (x.length - x.index))
+
+-- what the loop keeps: some turns lead to what the contract says, and the row is short enough for the index to move on
+pub record Reached (xs : List Record) (p : Phase) (e : SignalEvent) (zs : List Record) (x : Exchange) : Type 0 where
+  pub turns_left : ℕ
+  pub reach : Reach xs p e turns_left zs x
+  pub few : x.length ≤ 8
+
+pub swap_few : (r : Record) (x : Exchange) → x.length ≤ 8 → (swap_of r x).exchange.length ≤ 8
+unfolding swap_of moved_on
+swap_few r x h = elim (tested (ltb (index_after x.index) x.length || x.taken)) [ holds t ↦ rw t h | fails t ↦ rw t h ]
+
+pub swap_left : (r : Record) (x : Exchange) → x.length ≤ 8 → x.index < x.length → left (swap_of r x).exchange < left x
+unfolding swap_of moved_on index_after
+swap_left r x h l =
+    rw (lt-ltb x.index 8 (omega arith))
+    (elim (tested x.taken) [
+      | holds t ↦ rw (t, or-true (ltb (x.index + 1) x.length)) (omega (arith, l))
+      | fails t ↦ elim (tested (ltb (x.index + 1) x.length)) [
+        | holds u ↦ rw (t, u) (omega (arith, l))
+        | fails u ↦ rw (t, u) (omega (arith, l))
+      ]
+    ])
+
+begin_few : (n : ℕ) (p : Phase) (e : SignalEvent) → (begin_of n p e).length ≤ 8
+unfolding begin_of
+begin_few n p e = elim (tested (ltb 8 n)) [
+  | holds t ↦ rw t (omega arith)
+  | fails t ↦ elim (tested (eqb n 0)) [ holds u ↦ rw (t, u) (omega arith) | fails u ↦ rw (t, u) (ltb-false 8 n t) ]
+]
+
+module _ (xs : List Record) (p : Phase) (e : SignalEvent) where
+  pub begun : (x : Exchange) → x ≡ begin_of (length xs) p e → Reached xs p e xs x
+  begun x is = record { turns_left = turns xs; reach = rw is (reached xs p e); few = rw is (begin_few (length xs) p e) }
+
+  module _ (zs : List Record) (x : Exchange) (r : Reached xs p e zs x) where
+    inside_of : (t : ℕ) → Reach xs p e t zs x → x.index < x.length → x.index < length zs
+    inside_of zero h l = absurd (omega (arith, h.0, l))
+    inside_of (suc t) h l = h.1.0
+
+    pub there : x.index < x.length → x.index < length zs
+    there l = inside_of r.turns_left r.reach l
+
+    -- a turn, with any record that stands at the index
+    turned : (t : ℕ) → Reach xs p e t zs x → x.index < x.length → Reached xs p e (set zs x.index (swap_of (get_or zs x.index none) x).after) (swap_of (get_or zs x.index none) x).exchange
+    turned zero h l = absurd (omega (arith, h.0, l))
+    turned (suc t) h l = record { turns_left = t; reach = h.1.1; few = swap_few (get_or zs x.index none) x r.few }
+
+    pub goes : (z : Record) → x.index < x.length → z ≡ get_or zs x.index none → Reached xs p e (set zs x.index (swap_of z x).after) (swap_of z x).exchange
+    goes z l is = rw is (turned r.turns_left r.reach l)
+
+    finished : (t : ℕ) → Reach xs p e t zs x → x.length ≤ x.index → (zs ≡ row_after xs p e) × (x.reply ≡ row_reply xs p e)
+    finished zero h l = h.1
+    finished (suc t) h l = absurd (omega (arith, h.0, l))
+
+    pub done : x.length ≤ x.index → (zs ≡ row_after xs p e) × (x.reply ≡ row_reply xs p e)
+    done l = finished r.turns_left r.reach l

@@ -6,6 +6,7 @@ ghost use Rattle.script.specs.Answer.{answer_line};
 use text::proved_callers::{write_decimal, write_text};
 
 // At most 76 bytes: three numbers of 20 digits and 16 bytes between them.
+#[tactic(auto, unfolding(crate::specs::Answer::answer_line))]
 pub fn write_answer(n: u64, code: u64, value: u64, out: &mut [u8], at: usize) -> usize
     requires { at + 76 ≤ length out.old }
     ensures { Written out.old at (answer_line n code value) out.new result }

@@ -9,6 +9,7 @@ use crate::twin::{State, fresh, fresh_replay, next_number, reply_to, run};
 use text::lines_in;
 
 // Answers a last line, which lacks its line feed.
+#[tactic(auto, unfolding(crate::specs::Twin::answer_to))]
 fn answer_last(state: State, line: &[u8], out: &mut [u8], at: usize) -> usize
     requires { at + 76 ≤ length out.old }
     ensures { Written out.old at (answer_to state line.now) out.new result }

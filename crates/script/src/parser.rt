@@ -70,6 +70,7 @@ fn gather(line: &[u8], x: Field, y: Field, z: Field) -> Numbers
 }
 
 // The line read as that shape.
+#[tactic(auto, unfolding(crate::specs::Parser::none_of, crate::specs::Parser::one_of, crate::specs::Parser::two_of, crate::specs::Parser::three_of))]
 fn scan(line: &[u8], shape: Shape) -> Numbers
     ensures { result ≡ scanned shape line.now }
 {
@@ -151,6 +152,7 @@ fn event_of(shape: Shape, n: Numbers) -> Event
 }
 
 // The event whose line this is, if there is one.
+#[tactic(auto, unfolding(crate::specs::Parser::parsed))]
 pub fn parse(line: &[u8]) -> Request
     ensures { result ≡ parsed line.now }
 {

@@ -68,6 +68,7 @@ fn write_row(count: u8, devices: [Device; 8], lit: [u64; 128], unlit: [u64; 128]
 
 // Replays a recording from an empty bus and gives the totals at its end: of the device at position i and its output j the lit total
 // at 32 * i + 2 * j and the unlit one behind it.
+#[tactic(auto, unfolding(crate::specs::Totals::totals_after))]
 pub fn totals_log(log: &[u8], row: &mut [u64]) -> u64
     ensures value { result ≡ totals_code (length row.old) }
     ensures row_after { row.new ≡ totals_after log.now row.old }

@@ -47,6 +47,7 @@ pub fn entry_by(stamp: u64, rest: Request) -> Entry
 }
 
 // The entry whose line this is, if there is one.
+#[tactic(auto, unfolding(crate::specs::Parser::parsed_entry))]
 pub fn parse_entry(line: &[u8]) -> Entry
     ensures { result ≡ parsed_entry line.now }
 {

@@ -78,6 +78,7 @@ pub fn next_number(n: u64) -> u64
 }
 
 // What a line is answered with. ok says whether the bus is well formed.
+#[tactic(auto, unfolding(crate::specs::Twin::reply_to))]
 pub fn reply_to(ok: bool, bus: Bus, form: Form, line: &[u8]) -> Reply
     requires { ok ≡ bus_ok bus }
     ensures { result ≡ reply_to bus form line.now }
@@ -112,6 +113,7 @@ fn head_of(form: Form, line: &[u8]) -> Field
 }
 
 // An event's line is read in one place for both forms, since a function that one place calls is compiled into it.
+#[tactic(auto, unfolding(crate::specs::Heard::heard_by, crate::specs::Parser::parsed_entry))]
 fn hear(ok: bool, count: u8, form: Form, line: &[u8]) -> Heard
     ensures { result ≡ heard_by ok count form line.now }
 {

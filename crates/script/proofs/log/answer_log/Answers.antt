@@ -1,0 +1,15 @@
+-- `answer_log`: the run, and a last line that lacks its line feed.
+use Rattle.std.proofs.Common.{arith}
+use Rattle.std.proofs.Math.Path.{refl}
+use Rattle.script.specs.Promises.{answer_room}
+use Rattle.script.specs.Twin.{twin}
+use Rattle.text.specs.laws.Log.{room_there, last_answered}
+use Rattle.script.proofs.log.answer_log.Goals as goal
+
+pub answer_last-requires : goal.answer_last-requires
+answer_last-requires c =
+    room_there twin (omega (arith, c.lines_in-lines.ensures, c.if-out-lines.false)) c.run-ran.ensures answer_room c.if-log-read.false
+
+pub returns : goal.returns
+returns c =
+    last_answered twin (omega (arith, c.lines_in-lines.ensures, c.if-out-lines.false)) c.run-ran.ensures answer_room c.if-log-read.false refl c.answer_last.ensures
