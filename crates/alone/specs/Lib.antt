@@ -1,3 +1,1 @@
 pub mod Alone
-pub mod laws
-pub mod Promises

@@ -6,4 +6,3 @@ pub mod Output
 pub mod Start
 pub mod WellFormed
 pub mod laws
-pub mod Promises

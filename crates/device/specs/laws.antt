@@ -1,3 +1,1 @@
 pub mod Output
-pub mod Wait
-pub mod WellFormed

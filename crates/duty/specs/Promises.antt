@@ -6,7 +6,7 @@ use Rattle.basics.specs.laws.Logic.{neither}
 use Rattle.lamp.specs.Window.{lit_ticks, count_limit, counted_ticks}
 use Rattle.lamp.specs.Driver.{driver_lit}
 use Rattle.lamp.specs.Duty.{Bounded}
-use Rattle.lamp.specs.Promises.{individual_duty, dimmed_duty, blink_period_count}
+use Rattle.lamp.proofs.Promises.{individual_duty, dimmed_duty, blink_period_count}
 use Rattle.lamp.specs.declared.DriverMode.{DriverMode}
 use Rattle.lamp.specs.declared.DriverMode.TheVariants as Mode
 use Rattle.chip.specs.Kinds.{outputs_of}
@@ -17,7 +17,7 @@ use Rattle.device.specs.declared.Device.{Device}
 use Rattle.bus.specs.Devices.{device_at}
 use Rattle.bus.specs.Place.{question_refusals, value_of}
 use Rattle.bus.specs.Events.{step_reply, step_refusals, step_done, lit_reply}
-use Rattle.bus.specs.laws.Replies.{answer_done}
+use Rattle.bus.proofs.laws.Replies.{answer_done}
 use Rattle.bus.specs.declared.Bus.{Bus}
 use Rattle.bus.specs.declared.Event.TheVariants.{Ask}
 use Rattle.bus.specs.declared.Question.TheVariants.{Lit}

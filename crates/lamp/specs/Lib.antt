@@ -4,4 +4,3 @@ pub mod Driver
 pub mod Blinker
 pub mod Duty
 pub mod laws
-pub mod Promises

@@ -1,4 +1,3 @@
 -- How the theorems of `Promises` and the contracts of `src/` are shown.
 pub mod Count
-pub mod Drift
 pub mod Shared

@@ -39,7 +39,7 @@ fn blinker_count(mode: BlinkerMode, x: u64) -> u64
 }
 
 // The lit steps of a window of a blinker's output.
-#[tactic(auto, using(crate::specs::laws::Count::grows, crate::specs::laws::Count::within_counted, crate::specs::laws::Count::beyond_none, crate::specs::laws::Count::within_fits))]
+#[tactic(auto, using(crate::proofs::laws::Count::grows, crate::proofs::laws::Count::within_counted, crate::proofs::laws::Count::beyond_none, crate::proofs::laws::Count::within_fits))]
 pub fn blinker_lit_steps(mode: BlinkerMode, at: BlinkerSteps, steps: BlinkerSteps) -> BlinkerSteps
     ensures { result.0 ≡ counted_ticks (blinker_lit mode) at.0 steps.0 }
 {

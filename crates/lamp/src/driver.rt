@@ -123,7 +123,7 @@ fn driver_count(mode: DriverMode, x: u64) -> u64
 }
 
 // The lit ticks of a window of a driver's output.
-#[tactic(auto, using(crate::specs::laws::Count::grows, crate::specs::laws::Count::within_counted, crate::specs::laws::Count::beyond_none, crate::specs::laws::Count::within_fits))]
+#[tactic(auto, using(crate::proofs::laws::Count::grows, crate::proofs::laws::Count::within_counted, crate::proofs::laws::Count::beyond_none, crate::proofs::laws::Count::within_fits))]
 pub fn driver_lit_ticks(mode: DriverMode, at: DriverTicks, ticks: DriverTicks) -> DriverTicks
     ensures { result.0 ≡ counted_ticks (driver_lit mode) at.0 ticks.0 }
 {

@@ -88,7 +88,7 @@ fn asleep_shared(group: Group, at: DriverTicks, ticks: DriverTicks) -> Shared
 }
 
 // For all outputs of a driver, by the group registers that they share.
-#[tactic(auto, using(crate::specs::laws::Shared::group_positive, crate::specs::laws::Shared::group_within), unfolding(crate::specs::laws::Shared::shared_of))]
+#[tactic(auto, using(crate::proofs::laws::Shared::group_positive, crate::proofs::laws::Shared::group_within), unfolding(crate::specs::laws::Shared::shared_of))]
 pub fn driver_shared(
     awake: bool,
     dmblnk: bool,

@@ -4,6 +4,3 @@ pub mod Put
 pub mod Read
 pub mod Stop
 pub mod Signals
-pub mod laws
-pub mod Promises
-pub mod Guarantees

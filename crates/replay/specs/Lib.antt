@@ -2,4 +2,3 @@ pub mod Time
 pub mod Replay
 pub mod ByHand
 pub mod laws
-pub mod Promises

@@ -1,1 +1,3 @@
 pub mod Passes
+pub mod laws
+pub mod Promises

@@ -22,14 +22,14 @@ use Rattle.totals.specs.Totals.{record_of, zeros, totals_fit}
 use Rattle.totals.specs.declared.Record.{Record}
 use Rattle.bus.specs.Devices.{empty_bus, with_devices}
 use Rattle.bus.specs.Place.{with_chip}
-use Rattle.bus.specs.laws.WellFormed.{step_places}
+use Rattle.bus.proofs.laws.WellFormed.{step_places}
 use Rattle.bus.specs.declared.Bus.{Bus}
 use Rattle.bus.specs.declared.SignalEvent.{SignalEvent}
 use Rattle.bus.specs.declared.Event.TheVariants.{Signal}
 use Rattle.bus.specs.declared.Reply.{Reply}
 use Rattle.row.specs.Row.{devices_of, all_fit, refitted, row_bus, refused_row, row_replied, answered, row_answer, row_reply, row_after}
 use Rattle.row.specs.Exchange.{bus_for, exchange_of, taken_of, begin_of, index_after, moved_on, swap_of}
-use Rattle.row.specs.laws.Refitted.{get_or_device}
+use Rattle.row.proofs.laws.Refitted.{get_or_device}
 use Rattle.row.specs.declared.Exchange.{Exchange}
 use Rattle.row.specs.declared.RowReply.{RowReply}
 

@@ -5,12 +5,12 @@ use Rattle.std.proofs.Math.Path.{refl, sym, ap}
 use Rattle.std.proofs.Common.{◌∙◌, arith, lt-ltb, length-append}
 use Rattle.bus.specs.Devices.{bus_ok}
 use Rattle.bus.specs.Events.{request_reply}
-use Rattle.bus.specs.Promises.{step_shape}
+use Rattle.bus.proofs.Promises.{step_shape}
 use Rattle.bus.specs.declared.Bus.{Bus}
 use Rattle.bus.specs.declared.Event.{Event}
 use Rattle.bus.specs.declared.Reply.{Reply}
 use Rattle.replay.specs.Replay.{replayed, replay_replies, replay_bus}
-use Rattle.replay.specs.Promises.{replay_shape}
+use Rattle.replay.proofs.Promises.{replay_shape}
 use Rattle.replay.specs.declared.Clock.{Clock}
 use Rattle.replay.specs.declared.Entry.{Entry}
 use Rattle.replay.specs.declared.Entry.TheVariants as N

@@ -4,4 +4,3 @@ pub mod Kept
 pub mod Calls
 pub mod History
 pub mod laws
-pub mod Promises

@@ -1,12 +1,3 @@
-pub mod Bytes
-pub mod Saved
-pub mod Kept
 pub mod Layout
 pub mod Only
-pub mod Calls
-pub mod Room
 pub mod Judged
-pub mod History
-pub mod Listed
-pub mod Fresh
-pub mod Readings

@@ -1,4 +1,3 @@
 pub mod Totals
 pub mod Wait
 pub mod laws
-pub mod Promises

@@ -23,10 +23,10 @@ use Rattle.device.specs.Fields.{with_count, with_written, with_effective}
 use Rattle.device.specs.Registers.{in_effect, is_awake, is_blinking}
 use Rattle.device.specs.Reset.{fresh}
 use Rattle.device.specs.Output.{pair_of, ledout_of}
-use Rattle.device.specs.laws.WellFormed.{well}
+use Rattle.device.proofs.laws.WellFormed.{well}
 use Rattle.device.specs.declared.Device.{Device}
 use Rattle.device.specs.declared.Phase.TheVariants.{Idle}
-use Rattle.bus.specs.laws.Records.{zeros_fit}
+use Rattle.bus.proofs.laws.Records.{zeros_fit}
 use Rattle.bus.specs.Devices.{bus_ok}
 use Rattle.duty.specs.Output.{Output, Stands}
 use Rattle.bus.specs.declared.Bus.{Bus}

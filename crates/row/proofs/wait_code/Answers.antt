@@ -5,7 +5,7 @@ use Rattle.refusals.specs.Refusals.{refuse}
 use Rattle.refusals.specs.laws.Refusals.{refused_first, refused_more}
 use Rattle.totals.specs.Totals.{legal_record}
 use Rattle.totals.specs.Wait.{exceeds_for}
-use Rattle.totals.specs.laws.Wait.{bare_exceeds}
+use Rattle.totals.proofs.laws.Wait.{bare_exceeds}
 use Rattle.row.proofs.wait_code.Goals as goal
 
 pub returns : goal.returns

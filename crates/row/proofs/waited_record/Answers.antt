@@ -4,7 +4,7 @@ use Rattle.std.proofs.Math.Path.{refl}
 use Rattle.refusals.specs.laws.Refusals.{accepted}
 use Rattle.row.specs.Wait.{record_refusals}
 use Rattle.totals.specs.Wait.{exceeds_for}
-use Rattle.totals.specs.laws.Wait.{bare_exceeds}
+use Rattle.totals.proofs.laws.Wait.{bare_exceeds}
 use Rattle.row.proofs.waited_record.Goals as goal
 
 pub record_waited-next-requires : goal.record_waited-next-requires

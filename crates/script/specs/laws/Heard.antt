@@ -3,7 +3,7 @@ use Rattle.std.specs.Prelude.{ℕ, ◌<◌, refl, Bool, true, List}
 use Rattle.std.proofs.Math.Path.{◌≡◌, ap}
 use Rattle.std.proofs.Common.{arith}
 use Rattle.bus.specs.Asked.{asked_of}
-use Rattle.bus.specs.laws.Asked.{asked_device}
+use Rattle.bus.proofs.laws.Asked.{asked_device}
 use Rattle.bus.specs.declared.Asked.{Asked}
 use Rattle.bus.specs.declared.Asked.TheVariants.{Device, Other}
 use Rattle.bus.specs.declared.Event.TheVariants.{Ask}

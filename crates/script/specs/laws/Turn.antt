@@ -9,9 +9,9 @@ use Rattle.bus.specs.declared.Bus.{Bus}
 use Rattle.bus.specs.declared.Reply.{Reply}
 use Rattle.bus.specs.declared.Request.{Request}
 use Rattle.bus.specs.declared.Request.TheVariants.{Known, Unknown}
-use Rattle.bus.specs.laws.WellFormed.{step_places}
+use Rattle.bus.proofs.laws.WellFormed.{step_places}
 use Rattle.replay.specs.Replay.{replayed}
-use Rattle.replay.specs.laws.Alike.{replay_places}
+use Rattle.replay.proofs.laws.Alike.{replay_places}
 use Rattle.replay.specs.declared.Clock.{Clock}
 use Rattle.replay.specs.declared.Entry.{Entry}
 use Rattle.replay.specs.declared.Replayed.{Replayed}

@@ -3,7 +3,7 @@ use Rattle.std.proofs.Common.{sym, ◌∙◌, arith, leb-false}
 use Rattle.std.proofs.Math.Path.{refl}
 use Rattle.bus.specs.Add.{add_refusals}
 use Rattle.bus.specs.Events.{step_refusals, step_done, step_reply}
-use Rattle.bus.specs.laws.Replies.{answered, turned_away}
+use Rattle.bus.proofs.laws.Replies.{answered, turned_away}
 use Rattle.chip.specs.Kinds.{chip_numbered}
 use Rattle.chip.specs.laws.Addresses.{allowed_byte}
 use Rattle.refusals.specs.laws.Refusals.{accepted}

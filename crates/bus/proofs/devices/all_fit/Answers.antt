@@ -1,7 +1,8 @@
 -- The loop: the totals of the first i devices can be handed in.
 use Rattle.std.proofs.Common.{sym, ◌∙◌, rules}
 use Rattle.basics.specs.laws.Below.{below_none, below_more, below_fails}
-use Rattle.bus.specs.laws.Records.{fits_at, fits_lent}
+use Rattle.bus.specs.laws.Records.{fits_at}
+use Rattle.bus.proofs.laws.Records.{fits_lent}
 use Rattle.bus.proofs.devices.all_fit.Goals as goal
 
 pub loop-i-init : goal.loop-i-init

@@ -3,8 +3,8 @@ use Rattle.std.proofs.Common.{sym, ◌∙◌}
 use Rattle.bus.specs.Devices.{device_at}
 use Rattle.bus.specs.Events.{step_refusals, step_reply}
 use Rattle.bus.specs.Place.{question_refusals}
-use Rattle.bus.specs.laws.Place.{questions_above, position_first, device_answers}
-use Rattle.bus.specs.laws.Replies.{turned_away}
+use Rattle.bus.proofs.laws.Place.{questions_above, position_first, device_answers}
+use Rattle.bus.proofs.laws.Replies.{turned_away}
 use Rattle.bus.proofs.place.ask.Goals as goal
 
 pub returns-then-code-eq0 : goal.returns-then-code-eq0

@@ -1,6 +1,6 @@
 -- By its code, the steps up to the next common start or a refusal.
 use Rattle.bus.specs.Place.{blink_reply}
-use Rattle.bus.specs.laws.Replies.{answered, turned_away}
+use Rattle.bus.proofs.laws.Replies.{answered, turned_away}
 use Rattle.bus.proofs.place.blink_start.Goals as goal
 
 pub returns-then-code-eq0 : goal.returns-then-code-eq0

@@ -3,8 +3,8 @@ use Rattle.std.proofs.Common.{sym, ◌∙◌}
 use Rattle.bus.specs.Devices.{record_at}
 use Rattle.bus.specs.Events.{step_reply, step_refusals}
 use Rattle.bus.specs.Place.{change_refusals}
-use Rattle.bus.specs.laws.Place.{position_first, changes_above}
-use Rattle.bus.specs.laws.Replies.{turned_away}
+use Rattle.bus.proofs.laws.Place.{position_first, changes_above}
+use Rattle.bus.proofs.laws.Replies.{turned_away}
 use Rattle.bus.proofs.place.change.Goals as goal
 
 pub returns-else-code-eq0 : goal.returns-else-code-eq0

@@ -7,9 +7,9 @@ use Rattle.bus.specs.Devices.{device_at}
 use Rattle.bus.specs.Events.{wait_reply}
 use Rattle.bus.specs.Place.{change_refusals, after_change}
 use Rattle.bus.specs.Units.{wait_for_reply}
-use Rattle.bus.specs.laws.Place.{position_there, levels_byte, placed_is}
-use Rattle.bus.specs.laws.Units.{own_wait}
-use Rattle.device.specs.laws.Wait.{own_is_own, own_amount}
+use Rattle.bus.proofs.laws.Place.{position_there, levels_byte, placed_is}
+use Rattle.bus.proofs.laws.Units.{own_wait}
+use Rattle.device.proofs.laws.Wait.{own_is_own, own_amount}
 use Rattle.refusals.specs.Refusals.{code_of}
 use Rattle.bus.proofs.place.change_at.Goals as goal
 

@@ -2,7 +2,7 @@
 use Rattle.std.proofs.Common.{ap, ◌∙◌}
 use Rattle.bus.specs.Place.{question_refusals}
 use Rattle.device.specs.Wait.{is_too_long_for}
-use Rattle.device.specs.laws.Wait.{bare_too_long}
+use Rattle.device.proofs.laws.Wait.{bare_too_long}
 use Rattle.refusals.specs.laws.Refusals.{refused_first, refused_more}
 use Rattle.bus.proofs.place.question_code.Goals as goal
 

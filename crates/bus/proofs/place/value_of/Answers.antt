@@ -1,6 +1,6 @@
 -- The answer to a question, by what it is; an output that is not refused is a byte.
 use Rattle.std.proofs.Common.{arith}
-use Rattle.bus.specs.laws.Place.{lit_byte, pin_byte}
+use Rattle.bus.proofs.laws.Place.{lit_byte, pin_byte}
 use Rattle.bus.proofs.place.value_of.Goals as goal
 
 pub overflow_cast-out : goal.overflow_cast-out

@@ -3,7 +3,7 @@ use Rattle.std.proofs.Common.{sym, ◌∙◌}
 use Rattle.std.proofs.Math.Path.{refl}
 use Rattle.bus.specs.Events.{step_refusals, step_done, step_reply}
 use Rattle.bus.specs.Signals.{signal_refusals}
-use Rattle.bus.specs.laws.Replies.{ok_count, answered, turned_away}
+use Rattle.bus.proofs.laws.Replies.{ok_count, answered, turned_away}
 use Rattle.refusals.specs.laws.Refusals.{accepted}
 use Rattle.bus.proofs.signals.signal.Goals as goal
 

@@ -3,8 +3,8 @@ use Rattle.std.proofs.Common.{sym, ◌∙◌, arith}
 use Rattle.std.proofs.Math.Path.{refl}
 use Rattle.bus.specs.Devices.{device_at}
 use Rattle.bus.specs.Units.{lit_for_refusals, lit_for_reply}
-use Rattle.bus.specs.laws.Place.{output_byte}
-use Rattle.bus.specs.laws.Replies.{answered, turned_away}
+use Rattle.bus.proofs.laws.Place.{output_byte}
+use Rattle.bus.proofs.laws.Replies.{answered, turned_away}
 use Rattle.refusals.specs.laws.Refusals.{accepted}
 use Rattle.bus.proofs.units.lit_for.Goals as goal
 

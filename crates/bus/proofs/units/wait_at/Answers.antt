@@ -6,14 +6,14 @@ use Rattle.basics.specs.laws.Lists.{as_long}
 use Rattle.basics.specs.laws.Parts.{part_long}
 use Rattle.bus.specs.Devices.{record_at}
 use Rattle.bus.specs.Units.{wait_refusals, wait_for_reply}
-use Rattle.bus.specs.laws.Place.{placed_code}
-use Rattle.bus.specs.laws.Records.{lent_long, record_lent, record_back}
-use Rattle.bus.specs.laws.Replies.{answered, turned_away}
+use Rattle.bus.proofs.laws.Place.{placed_code}
+use Rattle.bus.proofs.laws.Records.{lent_long, record_lent, record_back}
+use Rattle.bus.proofs.laws.Replies.{answered, turned_away}
 use Rattle.refusals.specs.Refusals.{code_of}
 use Rattle.refusals.specs.laws.Refusals.{accepted}
 use Rattle.totals.specs.Wait.{exceeds_for, waited_for}
 use Rattle.totals.specs.declared.Record.{Record}
-use Rattle.totals.specs.laws.Wait.{waited_long}
+use Rattle.totals.proofs.laws.Wait.{waited_long}
 use Rattle.bus.proofs.units.wait_at.Goals as goal
 
 pub wait-after-requires : goal.wait-after-requires

@@ -3,8 +3,8 @@ use Rattle.std.proofs.Common.{sym, ◌∙◌}
 use Rattle.std.proofs.Math.Path.{refl}
 use Rattle.bus.specs.Devices.{record_at}
 use Rattle.bus.specs.Units.{wait_refusals, wait_for_reply}
-use Rattle.bus.specs.laws.Place.{position_first, position_there}
-use Rattle.bus.specs.laws.Replies.{turned_away}
+use Rattle.bus.proofs.laws.Place.{position_first, position_there}
+use Rattle.bus.proofs.laws.Replies.{turned_away}
 use Rattle.bus.proofs.units.wait_for.Goals as goal
 
 pub wait_at-requires : goal.wait_at-requires

@@ -1,5 +1,5 @@
 -- `device::wait::blinker_advanced` meets its contract, by the law of the limit.
-use Rattle.device.specs.laws.Wait.{within_advanced, beyond_stays}
+use Rattle.device.proofs.laws.Wait.{within_advanced, beyond_stays}
 use Rattle.device.proofs.wait.blinker_advanced.Goals as goal
 
 pub returns-then-blinker_within : goal.returns-then-blinker_within

@@ -1,5 +1,5 @@
 -- `device::wait::driver_advanced` meets its contract, by the law of the limit.
-use Rattle.device.specs.laws.Wait.{within_advanced, beyond_stays}
+use Rattle.device.proofs.laws.Wait.{within_advanced, beyond_stays}
 use Rattle.device.proofs.wait.driver_advanced.Goals as goal
 
 pub returns-then-driver_within : goal.returns-then-driver_within

@@ -1,7 +1,7 @@
 -- `lamp::blinker::blinker_count` meets its contract: each mode has its closed form.
 use Rattle.std.proofs.Common.{arith}
 use Rattle.lamp.specs.Blinker.{lit_below, blinker_lit}
-use Rattle.lamp.specs.laws.Count.{within, prefix, from_zero, never, every, from_counts}
+use Rattle.lamp.proofs.laws.Count.{within, prefix, from_zero, never, every, from_counts}
 use Rattle.lamp.proofs.blinker.blinker_count.Goals as goal
 
 pub overflow_sub-result : goal.overflow_sub-result

@@ -1,6 +1,6 @@
 -- `lamp::count::grouped` meets its contract: one duty inside another.
 use Rattle.std.proofs.Common.{arith}
-use Rattle.lamp.specs.laws.Count.{from_zero, group_counts}
+use Rattle.lamp.proofs.laws.Count.{from_zero, group_counts}
 use Rattle.lamp.proofs.count.grouped.Goals as goal
 
 pub returns : goal.returns

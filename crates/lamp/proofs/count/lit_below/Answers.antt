@@ -1,6 +1,6 @@
 -- `lamp::count::lit_below` meets its contract.
 use Rattle.std.proofs.Common.{◌∙◌, arith}
-use Rattle.lamp.specs.laws.Count.{from_zero, below_counts}
+use Rattle.lamp.proofs.laws.Count.{from_zero, below_counts}
 use Rattle.lamp.proofs.count.lit_below.Goals as goal
 
 pub returns : goal.returns

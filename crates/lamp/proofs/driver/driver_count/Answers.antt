@@ -1,7 +1,7 @@
 -- `lamp::driver::driver_count` meets its contract: each mode has its closed form.
 use Rattle.std.proofs.Common.{arith}
 use Rattle.lamp.specs.Driver.{driver_lit}
-use Rattle.lamp.specs.laws.Count.{from_zero, never, every, individual_counts}
+use Rattle.lamp.proofs.laws.Count.{from_zero, never, every, individual_counts}
 use Rattle.lamp.proofs.driver.driver_count.Goals as goal
 
 pub returns-in-Off : goal.returns-in-Off

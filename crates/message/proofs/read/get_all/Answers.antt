@@ -1,7 +1,7 @@
 -- The loop: the first i bytes of the part are got, the others as they were.
 use Rattle.std.proofs.Common.{arith, rules}
-use Rattle.message.specs.laws.Gets.{gets_none, run_more, got_more, gets_done}
-use Rattle.message.specs.laws.Values.{get_value}
+use Rattle.message.proofs.laws.Gets.{gets_none, run_more, got_more, gets_done}
+use Rattle.message.proofs.laws.Values.{get_value}
 use Rattle.message.proofs.read.get_all.Goals as goal
 
 pub loop-i-init : goal.loop-i-init

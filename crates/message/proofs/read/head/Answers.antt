@@ -1,5 +1,5 @@
 -- The five signals before the gets, one after the other.
-use Rattle.message.specs.laws.Sent.{sent_append}
+use Rattle.message.proofs.laws.Sent.{sent_append}
 use Rattle.message.proofs.read.head.Goals as goal
 
 pub returns : goal.returns

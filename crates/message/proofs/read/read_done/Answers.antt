@@ -1,7 +1,7 @@
 -- The head and the gets make the message that the STOP ends; the bytes got go back into the buffer at the place.
 use Rattle.basics.specs.laws.Lists.{tail_back}
 use Rattle.message.specs.Read.{bytes_got}
-use Rattle.message.specs.laws.Sent.{sent_append, under_way_bus, ended_is}
+use Rattle.message.proofs.laws.Sent.{sent_append, under_way_bus, ended_is}
 use Rattle.message.proofs.read.read_done.Goals as goal
 
 pub returns-clause-value : goal.returns-clause-value

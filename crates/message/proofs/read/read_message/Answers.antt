@@ -3,9 +3,9 @@ use Rattle.std.proofs.Common.{sym, ap, ◌∙◌}
 use Rattle.std.proofs.Math.Path.{refl}
 use Rattle.std.specs.Prelude.{length}
 use Rattle.bus.specs.declared.Reply.{Reply}
-use Rattle.bus.specs.laws.Replies.{answered, turned_away}
+use Rattle.bus.proofs.laws.Replies.{answered, turned_away}
 use Rattle.message.specs.Read.{read_refusals, read_reply}
-use Rattle.message.specs.laws.Buffer.{read_fits, buffer_stored, buffer_kept}
+use Rattle.message.proofs.laws.Buffer.{read_fits, buffer_stored, buffer_kept}
 use Rattle.refusals.specs.laws.Refusals.{accepted}
 use Rattle.message.proofs.read.read_message.Goals as goal
 

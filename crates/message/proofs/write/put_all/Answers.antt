@@ -1,6 +1,6 @@
 -- The loop: the first i bytes are put.
 use Rattle.std.proofs.Common.{rules}
-use Rattle.message.specs.laws.Sent.{puts_none, puts_more}
+use Rattle.message.proofs.laws.Sent.{puts_none, puts_more}
 use Rattle.message.proofs.write.put_all.Goals as goal
 
 pub loop-i-init : goal.loop-i-init

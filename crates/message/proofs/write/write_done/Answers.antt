@@ -1,5 +1,5 @@
 -- START, the address and the lent bytes make the message that the STOP ends.
-use Rattle.message.specs.laws.Sent.{sent_append, ended_is}
+use Rattle.message.proofs.laws.Sent.{sent_append, ended_is}
 use Rattle.message.proofs.write.write_done.Goals as goal
 
 pub returns : goal.returns

@@ -1,7 +1,7 @@
 -- By its code, the run of its events or a refusal; an accepted address has seven bits.
 use Rattle.std.proofs.Common.{sym, ◌∙◌, ltb-false}
 use Rattle.std.proofs.Math.Path.{refl}
-use Rattle.bus.specs.laws.Replies.{answered, turned_away}
+use Rattle.bus.proofs.laws.Replies.{answered, turned_away}
 use Rattle.message.specs.Write.{write_refusals, write_reply}
 use Rattle.refusals.specs.laws.Refusals.{accepted}
 use Rattle.message.proofs.write.write_message.Goals as goal

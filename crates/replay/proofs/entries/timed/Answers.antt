@@ -1,6 +1,6 @@
 -- The event after the time, by the code of both.
-use Rattle.replay.specs.laws.Alike.{time_shape}
-use Rattle.replay.specs.laws.Timed.{timed_both, timed_neither}
+use Rattle.replay.proofs.laws.Alike.{time_shape}
+use Rattle.replay.proofs.laws.Timed.{timed_both, timed_neither}
 use Rattle.replay.proofs.entries.timed.Goals as goal
 
 pub step_judged-r-requires : goal.step_judged-r-requires

@@ -1,9 +1,10 @@
 -- The loop: the first i devices have taken the time.
 use Rattle.std.proofs.Common.{ap, ◌∙◌, rules}
 use Rattle.bus.specs.Devices.{record_at}
-use Rattle.bus.specs.laws.Records.{record_lent}
+use Rattle.bus.proofs.laws.Records.{record_lent}
 use Rattle.replay.specs.Time.{fits}
-use Rattle.replay.specs.laws.Passed.{bus_of, timed, time_none, time_more, room_none, room_more, as_before, totals_long}
+use Rattle.replay.specs.laws.Passed.{bus_of, timed}
+use Rattle.replay.proofs.laws.Passed.{time_none, time_more, room_none, room_more, as_before, totals_long}
 use Rattle.replay.proofs.time.wait_all.Goals as goal
 
 pub loop-i-init : goal.loop-i-init

@@ -1,6 +1,6 @@
 -- A driver that has room waits; any other device stays.
 use Rattle.std.proofs.Common.{sym, refl, ◌∙◌}
-use Rattle.replay.specs.laws.Passed.{driver_exceeds, driver_waited}
+use Rattle.replay.proofs.laws.Passed.{driver_exceeds, driver_waited}
 use Rattle.totals.specs.Totals.{record_of}
 use Rattle.replay.proofs.time.wait_driver.Goals as goal
 

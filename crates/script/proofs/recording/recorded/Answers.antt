@@ -2,8 +2,8 @@
 use Rattle.std.proofs.Common.{sym, ◌∙◌, arith, length-drop}
 use Rattle.std.specs.Prelude.{drop}
 use Rattle.text.specs.laws.Lines.{end_few}
-use Rattle.bus.specs.Promises.{empty_well}
-use Rattle.replay.specs.Promises.{replay_shape}
+use Rattle.bus.proofs.Promises.{empty_well}
+use Rattle.replay.proofs.Promises.{replay_shape}
 use Rattle.script.specs.laws.Totals.{ahead_all, ahead_next, ahead_none}
 use Rattle.script.proofs.recording.recorded.Goals as goal
 

@@ -2,7 +2,7 @@
 use Rattle.std.proofs.Common.{arith, sym, ◌∙◌, rules}
 use Rattle.std.specs.Prelude.{◌<◌}
 use Rattle.basics.specs.laws.Lists.{as_long, get_or_there}
-use Rattle.bus.specs.laws.Place.{position_free, device_answers}
+use Rattle.bus.proofs.laws.Place.{position_free, device_answers}
 use Rattle.chip.specs.declared.Chip.TheVariants.{Pca9635}
 use Rattle.device.specs.Reset.{fresh}
 use Rattle.script.specs.Twin.{twin}

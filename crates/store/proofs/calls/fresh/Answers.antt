@@ -1,6 +1,6 @@
 -- `fresh`: refused by the size; else every byte is 0.
 use Rattle.std.proofs.Common.{sym}
-use Rattle.store.specs.laws.Calls.{fresh_refused, fresh_done}
+use Rattle.store.proofs.laws.Calls.{fresh_refused, fresh_done}
 use Rattle.store.proofs.calls.fresh.Goals as goal
 
 pub returns-then-store-ne-SIZE : goal.returns-then-store-ne-SIZE

@@ -1,5 +1,5 @@
 -- `keep`: by its code, places freed or nothing.
-use Rattle.store.specs.laws.Judged.{keep_ready, keep_is, keep_turned}
+use Rattle.store.proofs.laws.Judged.{keep_ready, keep_is, keep_turned}
 use Rattle.store.proofs.calls.keep.Goals as goal
 
 pub free_others-requires : goal.free_others-requires

@@ -1,9 +1,9 @@
 -- `read`: refused by the shape, where nothing is found, where the buffer is short; else the text.
 use Rattle.std.proofs.Common.{sym, ◌∙◌, arith}
 use Rattle.store.specs.Calls.{bytes}
-use Rattle.store.specs.laws.Calls.{read_unsound, read_missing, read_short}
-use Rattle.store.specs.laws.Judged.{found_none, found_at_place, read_is}
-use Rattle.store.specs.laws.Layout.{ok_long}
+use Rattle.store.proofs.laws.Calls.{read_unsound, read_missing, read_short}
+use Rattle.store.proofs.laws.Judged.{found_none, found_at_place, read_is}
+use Rattle.store.proofs.laws.Layout.{ok_long}
 use Rattle.store.proofs.calls.read.Goals as goal
 
 pub returns-else-is_sound : goal.returns-else-is_sound

@@ -1,7 +1,7 @@
 -- `return_to`: by its code, one place written or nothing.
 use Rattle.std.proofs.Common.{sym, ◌∙◌}
-use Rattle.store.specs.laws.Judged.{return_from, return_ready, return_is, return_turned}
-use Rattle.store.specs.laws.Layout.{ok_long}
+use Rattle.store.proofs.laws.Judged.{return_from, return_ready, return_is, return_turned}
+use Rattle.store.proofs.laws.Layout.{ok_long}
 use Rattle.store.proofs.calls.return_to.Goals as goal
 
 pub held_if-from-requires : goal.held_if-from-requires

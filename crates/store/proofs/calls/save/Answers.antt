@@ -1,5 +1,5 @@
 -- `save`: by its code, one place written or nothing.
-use Rattle.store.specs.laws.Judged.{save_ready, save_is, save_turned}
+use Rattle.store.proofs.laws.Judged.{save_ready, save_is, save_turned}
 use Rattle.store.proofs.calls.save.Goals as goal
 
 pub put_next-requires : goal.put_next-requires

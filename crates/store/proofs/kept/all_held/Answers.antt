@@ -4,7 +4,7 @@ use Rattle.std.proofs.lemmas.Bool.{lt-leb}
 use Rattle.std.specs.Prelude.{◌<◌, not, leb}
 use Rattle.basics.specs.laws.Below.{below_none, below_more, below_fails}
 use Rattle.store.specs.Kept.{pairs, table_at, version_at, all_held}
-use Rattle.store.specs.laws.Layout.{missing_at}
+use Rattle.store.proofs.laws.Layout.{missing_at}
 use Rattle.store.proofs.kept.all_held.Goals as goal
 
 pub loop-i-init : goal.loop-i-init

@@ -4,8 +4,8 @@ use Rattle.std.specs.Prelude.{◌<◌, length}
 use Rattle.basics.specs.laws.Parts.{with_part_long}
 use Rattle.store.specs.Kept.{is_kept}
 use Rattle.store.specs.Layout.{saved_of}
-use Rattle.store.specs.laws.Layout.{ok_long, place_lent}
-use Rattle.store.specs.laws.Only.{turn_none, turn_frees, turn_keeps, seen}
+use Rattle.store.proofs.laws.Layout.{ok_long, place_lent}
+use Rattle.store.proofs.laws.Only.{turn_none, turn_frees, turn_keeps, seen}
 use Rattle.store.proofs.kept.free_by.Goals as goal
 use Rattle.store.proofs.kept.free_by.Goals.{then-is_freed, else-is_freed}
 

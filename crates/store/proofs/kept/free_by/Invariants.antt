@@ -2,7 +2,7 @@
 use Rattle.std.specs.Prelude.{◌-◌, ◌≤◌, ◌≡◌, length}
 use Rattle.store.specs.Kept.{is_kept}
 use Rattle.store.specs.Layout.{store_size, saved_of, only_below}
-use Rattle.store.specs.laws.Only.{gone_below}
+use Rattle.store.proofs.laws.Only.{gone_below}
 use Rattle.store.proofs.kept.free_by.Given as goal
 
 abbrev pub invariant-loop-i : goal.invariant-loop-i

@@ -1,8 +1,8 @@
 -- `keep_code`: the shape, the list's length, and whether all that it names are held.
 use Rattle.std.proofs.Common.{sym, ◌∙◌, arith}
 use Rattle.store.specs.Calls.{bytes}
-use Rattle.store.specs.laws.Calls.{keep_unsound, keep_odd, keep_missing, keep_clear}
-use Rattle.store.specs.laws.Layout.{ok_long}
+use Rattle.store.proofs.laws.Calls.{keep_unsound, keep_odd, keep_missing, keep_clear}
+use Rattle.store.proofs.laws.Layout.{ok_long}
 use Rattle.store.proofs.kept.keep_code.Goals as goal
 
 pub returns-else-is_sound : goal.returns-else-is_sound

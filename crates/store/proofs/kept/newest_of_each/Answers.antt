@@ -1,7 +1,7 @@
 -- `newest_of_each`: the greatest version of each table in the first i places.
 use Rattle.std.proofs.Common.{◌∙◌, arith, rules}
 use Rattle.std.proofs.lemmas.List.{get_or-replicate}
-use Rattle.store.specs.laws.Layout.{place_lent, newest_none, newest_more}
+use Rattle.store.proofs.laws.Layout.{place_lent, newest_none, newest_more}
 use Rattle.store.proofs.kept.newest_of_each.Goals as goal
 
 pub loop-i-init : goal.loop-i-init

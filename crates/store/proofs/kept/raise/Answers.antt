@@ -1,7 +1,7 @@
 -- `raise`: the greatest of the place's table, where there is such a table.
 use Rattle.std.proofs.Common.{arith, rules}
 use Rattle.std.specs.Prelude.{length}
-use Rattle.store.specs.laws.Only.{raised_own, raised_none}
+use Rattle.store.proofs.laws.Only.{raised_own, raised_none}
 use Rattle.store.proofs.kept.raise.Goals as goal
 
 pub returns-then-at-greatest : goal.returns-then-at-greatest

@@ -1,5 +1,5 @@
 -- `place_ok_lem`: free or held, by the version.
-use Rattle.store.specs.laws.Layout.{free_ok, held_ok_lem}
+use Rattle.store.proofs.laws.Layout.{free_ok, held_ok_lem}
 use Rattle.store.proofs.place.place_ok.Goals as goal
 
 pub returns-then-version_in-eq0 : goal.returns-then-version_in-eq0

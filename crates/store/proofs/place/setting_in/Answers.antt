@@ -1,6 +1,6 @@
 -- `setting_in`: the values are copied whole.
 use Rattle.std.proofs.Math.Path.{refl}
-use Rattle.store.specs.laws.Layout.{values_in}
+use Rattle.store.proofs.laws.Layout.{values_in}
 use Rattle.store.proofs.place.setting_in.Goals as goal
 
 pub returns : goal.returns

@@ -1,6 +1,6 @@
 -- `setting_ok`: the address, and zeros behind the values.
 use Rattle.std.proofs.Common.{sym, ◌∙◌}
-use Rattle.store.specs.laws.Layout.{setting_is, setting_barred}
+use Rattle.store.proofs.laws.Layout.{setting_is, setting_barred}
 use Rattle.store.proofs.place.setting_ok.Goals as goal
 
 pub returns-then-address_allowed : goal.returns-then-address_allowed

@@ -1,7 +1,7 @@
 -- `free`: the place is lent, cleared and given back.
 use Rattle.std.proofs.Math.Path.{refl}
 use Rattle.store.specs.Layout.{free_part}
-use Rattle.store.specs.laws.Layout.{lent_long, place_back}
+use Rattle.store.proofs.laws.Layout.{lent_long, place_back}
 use Rattle.store.proofs.places.free.Goals as goal
 
 pub returns : goal.returns

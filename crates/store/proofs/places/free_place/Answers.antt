@@ -3,7 +3,7 @@ use Rattle.std.proofs.Common.{sym, ap, ◌∙◌, arith, eq-eqb, ne_eqb, rules}
 use Rattle.std.specs.Prelude.{◌≡◌, not}
 use Rattle.basics.specs.laws.Below.{below_none, below_more, first_none, first_here}
 use Rattle.store.specs.Layout.{version_in, place}
-use Rattle.store.specs.laws.Layout.{place_lent}
+use Rattle.store.proofs.laws.Layout.{place_lent}
 use Rattle.store.proofs.places.free_place.Goals as goal
 
 pub loop-i-init : goal.loop-i-init

@@ -1,6 +1,6 @@
 -- `greater`: what the place adds, where it is of the table.
 use Rattle.std.proofs.Common.{sym, ◌∙◌, arith}
-use Rattle.store.specs.laws.Layout.{newest_own, newest_other}
+use Rattle.store.proofs.laws.Layout.{newest_own, newest_other}
 use Rattle.store.proofs.places.greater.Goals as goal
 
 pub returns-then-than-version : goal.returns-then-than-version

@@ -1,7 +1,7 @@
 -- `is_sound`: the size, and the first i places.
 use Rattle.std.proofs.Common.{sym, ◌∙◌, rules}
 use Rattle.basics.specs.laws.Below.{below_none, below_more, below_done, below_fails}
-use Rattle.store.specs.laws.Layout.{place_lent, wrong_size, right_size}
+use Rattle.store.proofs.laws.Layout.{place_lent, wrong_size, right_size}
 use Rattle.store.proofs.places.is_sound.Goals as goal
 
 pub returns-then-store-ne-SIZE : goal.returns-then-store-ne-SIZE

@@ -1,6 +1,6 @@
 -- `newest`: the greatest version of the table in the first i places.
 use Rattle.std.proofs.Common.{rules}
-use Rattle.store.specs.laws.Layout.{place_lent, newest_none, newest_more}
+use Rattle.store.proofs.laws.Layout.{place_lent, newest_none, newest_more}
 use Rattle.store.proofs.places.newest.Goals as goal
 
 pub loop-i-init : goal.loop-i-init

@@ -1,6 +1,6 @@
 -- `put_parts`: three parts of the place, one after the other.
 use Rattle.store.specs.Saved.{saved}
-use Rattle.store.specs.laws.Layout.{put_is}
+use Rattle.store.proofs.laws.Layout.{put_is}
 use Rattle.store.proofs.places.put_parts.Goals as goal
 
 pub returns : goal.returns

@@ -1,5 +1,5 @@
 -- `setting_at`: the place is lent.
-use Rattle.store.specs.laws.Layout.{place_lent}
+use Rattle.store.proofs.laws.Layout.{place_lent}
 use Rattle.store.proofs.places.setting_at.Goals as goal
 
 pub returns : goal.returns

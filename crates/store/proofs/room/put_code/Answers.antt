@@ -1,5 +1,5 @@
 -- `put_code`: the four refusals, one after the other.
-use Rattle.store.specs.laws.Judged.{room_more}
+use Rattle.store.proofs.laws.Judged.{room_more}
 use Rattle.store.proofs.room.put_code.Goals as goal
 
 pub returns : goal.returns

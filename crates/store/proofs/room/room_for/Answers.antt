@@ -1,6 +1,6 @@
 -- `room_for`: of a store of the right shape, what two loops find.
 use Rattle.std.proofs.Common.{sym, ◌∙◌}
-use Rattle.store.specs.laws.Layout.{ok_long}
+use Rattle.store.proofs.laws.Layout.{ok_long}
 use Rattle.store.proofs.room.room_for.Goals as goal
 
 pub newest-requires : goal.newest-requires

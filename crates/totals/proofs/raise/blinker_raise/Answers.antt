@@ -3,9 +3,9 @@ use Rattle.std.proofs.Common.{◌∙◌, rules}
 use Rattle.std.specs.Prelude.{◌+◌, ◌-◌, ◌≡◌, get_or}
 use Rattle.chip.specs.Kinds.{outputs_of}
 use Rattle.device.specs.Output.{lit_of}
-use Rattle.device.specs.laws.Output.{lit_few}
-use Rattle.totals.specs.laws.Raised.{raised_none, raised_more}
-use Rattle.totals.specs.laws.Wait.{lits_give, room_now}
+use Rattle.device.proofs.laws.Output.{lit_few}
+use Rattle.totals.proofs.laws.Raised.{raised_none, raised_more}
+use Rattle.totals.proofs.laws.Wait.{lits_give, room_now}
 use Rattle.totals.proofs.raise.blinker_raise.Goals as goal
 
 pub loop-i-init : goal.loop-i-init

@@ -3,10 +3,10 @@ use Rattle.std.proofs.Common.{sym, ap, subst, ◌∙◌, arith, rules}
 use Rattle.std.specs.Prelude.{◌+◌, ◌-◌, ◌≤◌, ◌<◌, ◌≡◌, get_or}
 use Rattle.chip.specs.Kinds.{outputs_of}
 use Rattle.device.specs.Output.{lit_of}
-use Rattle.device.specs.laws.Output.{driver_fits, shared_gives, lit_few}
+use Rattle.device.proofs.laws.Output.{driver_fits, shared_gives, lit_few}
 use Rattle.lamp.specs.laws.Shared.{Fits}
-use Rattle.totals.specs.laws.Raised.{raised_none, raised_more}
-use Rattle.totals.specs.laws.Wait.{room_now}
+use Rattle.totals.proofs.laws.Raised.{raised_none, raised_more}
+use Rattle.totals.proofs.laws.Wait.{room_now}
 use Rattle.totals.proofs.raise.driver_raise.Goals as goal
 
 pub loop-i-init : goal.loop-i-init

@@ -1,0 +1,9 @@
+pub mod Asked
+pub mod Place
+pub mod Records
+pub mod Replies
+pub mod Runs
+pub mod Signals
+pub mod Steps
+pub mod Units
+pub mod WellFormed

@@ -1,0 +1,3 @@
+pub mod laws
+pub mod Promises
+pub mod Guarantees

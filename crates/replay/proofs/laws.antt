@@ -1,0 +1,5 @@
+pub mod Alike
+pub mod Passed
+pub mod Time
+pub mod Timed
+pub mod Waits
