@@ -2,11 +2,9 @@
 -- one of them at its brightness (`awake_lit`, `asleep_lit`).
 use Rattle.std.specs.Prelude.{Bool, cond, ℕ, ◌+◌, ◌-◌, ◌*◌, ◌/◌, ◌%◌, ◌^◌, min, ◌≤◌, ◌<◌, leb, eqb}
 use Rattle.std.proofs.Math.Dec.{ltb}
-use Rattle.basics.specs.laws.Logic.{holds}
 use Rattle.lamp.specs.Window.{one_if, count_limit}
 use Rattle.lamp.specs.Driver.{blink_period, blink_on}
 use Rattle.lamp.specs.laws.Count.{duty_count}
-use Rattle.lamp.proofs.laws.Count.{window}
 use Rattle.lamp.specs.declared.Group.{Group}
 use Rattle.lamp.specs.declared.Shared.{Shared}
 use Rattle.lamp.specs.declared.Stretch.{Stretch}
