@@ -1,6 +1,6 @@
 // Beyond the events: wait and lit for a duration, which says its unit, and the blink-start question. In the device's own unit a wait and a
 // lit are those by the bare number; the other unit is refused.
-ghost use mathlib.Core.Path.{◌≡◌};
+ghost use Rattle.std.specs.Prelude.{◌≡◌};
 ghost use Rattle.lamp.specs.Duration.{amount};
 ghost use Rattle.bus.specs.Devices.{bus_ok};
 ghost use Rattle.bus.specs.Place.{blink_reply};
@@ -23,6 +23,7 @@ fn number_of(duration: Duration) -> u64
     }
 }
 
+#[tactic(auto, unfolding(bus::specs::Units::wait_for_reply))]
 pub fn wait_for(ok: bool, bus: Bus, dev: u64, duration: Duration) -> Reply
     requires { ok ≡ bus_ok bus }
     ensures { result ≡ wait_for_reply bus dev duration }
@@ -45,6 +46,7 @@ pub fn wait_for(ok: bool, bus: Bus, dev: u64, duration: Duration) -> Reply
     }
 }
 
+#[tactic(auto, unfolding(bus::specs::Units::lit_for_reply))]
 pub fn lit_for(ok: bool, bus: Bus, dev: u64, out: u64, duration: Duration) -> Reply
     requires { ok ≡ bus_ok bus }
     ensures { result ≡ lit_for_reply bus dev out duration }
@@ -72,6 +74,7 @@ pub fn lit_for(ok: bool, bus: Bus, dev: u64, out: u64, duration: Duration) -> Re
 }
 
 // The steps after which both blinks of a blinker begin together again.
+#[tactic(auto, unfolding(bus::specs::Place::blink_reply))]
 pub fn blink_start(ok: bool, bus: Bus, dev: u64) -> Reply
     requires { ok ≡ bus_ok bus }
     ensures { result ≡ blink_reply bus dev }

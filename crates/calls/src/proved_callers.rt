@@ -1,6 +1,6 @@
 // For proved callers alone: what asks something of its caller. ok says whether the bus is well formed: a caller that knows it need not have
 // it judged at every event.
-ghost use mathlib.Core.Path.{◌≡◌};
+ghost use Rattle.std.specs.Prelude.{◌≡◌};
 ghost use Rattle.bus.specs.Devices.{bus_ok};
 ghost use Rattle.bus.specs.Events.{step_reply, request_reply};
 
