@@ -4,7 +4,7 @@ ghost use Rattle.protocol.specs.Put.{is_selected, after_put, acks_to};
 
 use device::{Device, Phase, Stage};
 
-fn is_selected(stage: Stage) -> bool
+pub fn is_selected(stage: Stage) -> bool
     ensures { result ≡ is_selected stage }
 {
     match stage {

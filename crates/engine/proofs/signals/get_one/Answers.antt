@@ -1,0 +1,16 @@
+-- A device whose stage byte is 0 is not selected and stays as it is; any other is loaded, talks and is stored.
+use Rattle.std.proofs.Math.Path.{refl}
+use Rattle.engine.specs.laws.Signals.{skip_get, skip_talk}
+use Rattle.engine.proofs.signals.get_one.Goals as goal
+
+pub returns-then-part-eq0-clause-count_after : goal.returns-then-part-eq0-clause-count_after
+returns-then-part-eq0-clause-count_after c =
+    let p = c.args.part.now in
+    let e = c.if-part-eq0.true in
+    rw c.response_of.ensures (skip_get p _ e _)
+
+pub returns-then-part-eq0-clause-talk_value : goal.returns-then-part-eq0-clause-talk_value
+returns-then-part-eq0-clause-talk_value c =
+    let p = c.args.part.now in
+    let e = c.if-part-eq0.true in
+    (rw c.response_of.ensures (skip_talk p _ e), rw c.response_of.ensures refl)

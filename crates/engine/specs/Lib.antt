@@ -1,0 +1,4 @@
+pub mod Tabulate
+pub mod Lens
+pub mod Signals
+pub mod laws
