@@ -6,7 +6,7 @@ use Rattle.lamp.specs.declared.Duration.{Duration}
 use Rattle.device.specs.Fields.{with_count}
 use Rattle.device.specs.Registers.{is_awake}
 use Rattle.device.specs.Wait.{is_own, own_duration, after_wait, after_wait_for}
-use Rattle.totals.specs.laws.Wait.{bare_exceeds, bare_waited}
+use Rattle.totals.proofs.laws.Wait.{bare_exceeds, bare_waited}
 use Rattle.device.specs.declared.Device.{Device}
 use Rattle.device.specs.declared.Phase.{Phase}
 use Rattle.totals.specs.Totals.{record_of, zeros}

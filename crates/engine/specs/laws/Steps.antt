@@ -22,8 +22,8 @@ use Rattle.bus.specs.declared.Event.TheVariants as E
 use Rattle.bus.specs.declared.Question.{Question}
 use Rattle.bus.specs.declared.SignalEvent.{SignalEvent}
 use Rattle.bus.specs.declared.SignalEvent.TheVariants as S
-use Rattle.bus.specs.laws.Place.{placed_code, position_first, position_there, questions_above, changes_above}
-use Rattle.bus.specs.laws.Replies.{ok_count}
+use Rattle.bus.proofs.laws.Place.{placed_code, position_first, position_there, questions_above, changes_above}
+use Rattle.bus.proofs.laws.Replies.{ok_count}
 use Rattle.engine.specs.Lens.{devices_of, bus_of}
 use Rattle.engine.specs.Signals.{acks_at, talks_at, value_by}
 

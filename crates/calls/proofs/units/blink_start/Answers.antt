@@ -2,7 +2,7 @@
 use Rattle.std.proofs.Common.{ap, ◌∙◌}
 use Rattle.std.proofs.Math.Path.{refl}
 use Rattle.bus.specs.Place.{place_refusals, blink_reply}
-use Rattle.bus.specs.laws.Replies.{answered, turned_away}
+use Rattle.bus.proofs.laws.Replies.{answered, turned_away}
 use Rattle.chip.specs.Kinds.{is_driver}
 use Rattle.device.specs.declared.Device.{Device}
 use Rattle.refusals.specs.laws.Refusals.{refused_more}

@@ -7,8 +7,8 @@ use Rattle.bus.specs.Devices.{device_at}
 use Rattle.bus.specs.Events.{lit_reply}
 use Rattle.bus.specs.Place.{place_refusals, is_missing}
 use Rattle.bus.specs.Units.{lit_for_refusals, lit_for_reply}
-use Rattle.bus.specs.laws.Replies.{turned_away}
-use Rattle.bus.specs.laws.Units.{own_lit}
+use Rattle.bus.proofs.laws.Replies.{turned_away}
+use Rattle.bus.proofs.laws.Units.{own_lit}
 use Rattle.device.specs.Wait.{is_own, is_too_long_for}
 use Rattle.device.specs.declared.Device.{Device}
 use Rattle.refusals.specs.Refusals.{refuse}

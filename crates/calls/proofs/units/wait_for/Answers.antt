@@ -7,8 +7,8 @@ use Rattle.bus.specs.Devices.{record_at}
 use Rattle.bus.specs.Events.{wait_reply}
 use Rattle.bus.specs.Place.{place_refusals}
 use Rattle.bus.specs.Units.{wait_for_refusals, wait_for_reply}
-use Rattle.bus.specs.laws.Replies.{turned_away}
-use Rattle.bus.specs.laws.Units.{own_wait}
+use Rattle.bus.proofs.laws.Replies.{turned_away}
+use Rattle.bus.proofs.laws.Units.{own_wait}
 use Rattle.device.specs.Wait.{is_own, is_too_long_for}
 use Rattle.device.specs.declared.Device.{Device}
 use Rattle.lamp.specs.Duration.{amount}

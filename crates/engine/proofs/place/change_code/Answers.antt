@@ -4,7 +4,7 @@ use Rattle.bus.specs.Place.{change_refusals}
 use Rattle.refusals.specs.laws.Refusals.{refused_first}
 use Rattle.totals.specs.Totals.{record_of}
 use Rattle.totals.specs.Wait.{exceeds_for}
-use Rattle.totals.specs.laws.Wait.{bare_exceeds}
+use Rattle.totals.proofs.laws.Wait.{bare_exceeds}
 use Rattle.engine.proofs.place.change_code.Goals as goal
 
 pub returns-in-Wait : goal.returns-in-Wait

@@ -2,7 +2,7 @@
 use Rattle.std.proofs.Common.{ap, ◌∙◌}
 use Rattle.std.proofs.Math.Path.{refl}
 use Rattle.bus.specs.Place.{change_refusals, after_change}
-use Rattle.bus.specs.laws.Place.{levels_byte}
+use Rattle.bus.proofs.laws.Place.{levels_byte}
 use Rattle.chip.specs.Kinds.{is_driver}
 use Rattle.device.specs.declared.Device.{Device}
 use Rattle.engine.specs.Lens.{device_of}

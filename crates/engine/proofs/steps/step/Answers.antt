@@ -1,7 +1,7 @@
 -- Judged, then done or refused.
 use Rattle.std.proofs.Math.Path.{refl}
 use Rattle.bus.specs.Events.{step_reply}
-use Rattle.bus.specs.laws.Replies.{answered, turned_away}
+use Rattle.bus.proofs.laws.Replies.{answered, turned_away}
 use Rattle.engine.proofs.steps.step.Goals as goal
 
 pub returns-then-code-eq0 : goal.returns-then-code-eq0
