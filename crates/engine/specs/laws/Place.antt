@@ -17,7 +17,7 @@ use Rattle.refusals.specs.laws.Refusals.{accepted}
 use Rattle.bus.specs.Devices.{with_record, with_added}
 use Rattle.bus.specs.Place.{change_refusals}
 use Rattle.bus.specs.declared.Change.TheVariants.{Wait}
-use Rattle.bus.specs.laws.Records as records
+use Rattle.bus.proofs.laws.Records as records
 use Rattle.engine.specs.Lens.{device_of, bus_of, record_in, device_in, Long}
 use Rattle.engine.specs.laws.Lens.{lent, lent_is, lens_get, lens_set, given_back, other_count, none}
 

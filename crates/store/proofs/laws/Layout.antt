@@ -30,7 +30,7 @@ use Rattle.store.specs.Saved.{Saved, newest, Found, nothing, just, is_nothing, f
 use Rattle.store.specs.Layout.{store_size, digits, kind_of, chip_of, version_in, table_in, setting_in, place_of, held_ok, place_ok, place, store_ok, saved_at, saved_below, saved_of}
 use Rattle.store.proofs.laws.Bytes.{number_digits, digits_long}
 use Rattle.store.proofs.laws.Saved.{or_else, found_both, newest_both, never, just_inj, Inserted}
-use Rattle.store.specs.laws.Layout.{IsSaved, below, held_place, is_at, long, setting, table}
+use Rattle.store.specs.laws.Layout.{IsSaved, held_place, is_at}
 
 -- ---- the bytes of a version
 

@@ -5,7 +5,7 @@ use Rattle.engine.specs.laws.Lens.{lent_long}
 use Rattle.engine.specs.laws.Place.{record_lent, change_back}
 use Rattle.refusals.specs.Refusals.{code_of}
 use Rattle.totals.specs.declared.Record.{Record}
-use Rattle.bus.specs.laws.Records as records
+use Rattle.bus.proofs.laws.Records as records
 use Rattle.engine.proofs.place.change_at.Goals as goal
 
 pub change_one-requires : goal.change_one-requires
