@@ -1,5 +1,5 @@
 -- The words of the theorems on demand 3: what a bound says of a window, and that it is reached.
-use Rattle.std.specs.Prelude.{◌≡◌, ℕ, ◌+◌, ◌-◌, ◌*◌, ◌≤◌}
+use Rattle.std.specs.Prelude.{◌≡◌, ℕ, ◌+◌, ◌*◌, ◌≤◌}
 use Rattle.lamp.specs.Window.{count_limit}
 use Rattle.device.specs.declared.Device.{Device}
 use Rattle.bus.specs.Devices.{device_at}

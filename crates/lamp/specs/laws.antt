@@ -1,3 +1,3 @@
--- How the theorems of `Promises` and the contracts of `src/` are shown.
+-- What contracts of `src/` say besides the definitions of the rules.
 pub mod Count
 pub mod Shared

@@ -5,7 +5,7 @@ use Rattle.std.proofs.Common.{◌∙◌, true≢false, inl, inr, arith, eq-eqb, 
 use Rattle.std.proofs.Math.Bool.{or-true}
 use Rattle.basics.specs.Bits.{bit}
 use Rattle.basics.specs.laws.Logic.{and_right}
-use Rattle.basics.specs.laws.Tabulate.{get_d_tabulate}
+use Rattle.basics.specs.laws.Tabulate.{get_or-tabulate}
 use Rattle.chip.specs.Kinds.{is_driver, outputs_of}
 use Rattle.chip.specs.Registers.{mode1, pwm0, subadr1, allcalladr, in_buffer, is_buffered}
 use Rattle.chip.specs.laws.Registers.{registers_few}
@@ -98,4 +98,4 @@ all_shown_at_stop d r driver awake kept buffered =
     let inside : in_buffer (outputs_of d.chip) r ≡ true = rw driver at buffered in
     let below : r < 28 = omega (arith, registers_few d.chip, ltb-true r (subadr1 (outputs_of d.chip)) (and_right (leb pwm0 r) (ltb r (subadr1 (outputs_of d.chip))) inside)) in
     rw (driver, kept, awake)
-    (rw (driver, inside) (get_d_tabulate 28 (committed_at (outputs_of d.chip) d.written d.effective) r below ∙ rw inside refl))
+    (rw (driver, inside) (get_or-tabulate 28 (committed_at (outputs_of d.chip) d.written d.effective) r below ∙ rw inside refl))

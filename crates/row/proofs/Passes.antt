@@ -2,6 +2,7 @@
 --     over k src dst       the first k elements of src, then those of dst
 --     Reach t zs x         from the row zs and the exchange x, t turns lead to the row and the reply that the contract names
 --     reached              `Reach` where the loop begins
+--     Leads xs p e zs x    some turns do
 use mathlib.Core.Path.{◌≡◌, refl, sym, ap, ◌∙◌, subst}
 use Prim.Native.Nat.{ℕ, zero, suc, ◌+◌, ◌-◌, ◌<◌, ◌≤◌}
 use native.Mathlib.Numerals.{add-one}
@@ -289,7 +290,7 @@ abbrev pub left : Exchange → ℕ
 left x = cond x.taken (x.length - x.index) (x.length + (x.length - x.index))
 
 -- what the loop keeps: some turns lead to what the contract says, and the row is short enough for the index to move on
-pub record Reached (xs : List Record) (p : Phase) (e : SignalEvent) (zs : List Record) (x : Exchange) : Type 0 where
+pub record Leads (xs : List Record) (p : Phase) (e : SignalEvent) (zs : List Record) (x : Exchange) : Type 0 where
   pub turns_left : ℕ
   pub reach : Reach xs p e turns_left zs x
   pub few : x.length ≤ 8
@@ -318,10 +319,10 @@ begin_few n p e = elim (tested (ltb 8 n)) [
 ]
 
 module _ (xs : List Record) (p : Phase) (e : SignalEvent) where
-  pub begun : (x : Exchange) → x ≡ begin_of (length xs) p e → Reached xs p e xs x
+  pub begun : (x : Exchange) → x ≡ begin_of (length xs) p e → Leads xs p e xs x
   begun x is = record { turns_left = turns xs; reach = rw is (reached xs p e); few = rw is (begin_few (length xs) p e) }
 
-  module _ (zs : List Record) (x : Exchange) (r : Reached xs p e zs x) where
+  module _ (zs : List Record) (x : Exchange) (r : Leads xs p e zs x) where
     inside_of : (t : ℕ) → Reach xs p e t zs x → x.index < x.length → x.index < length zs
     inside_of zero h l = absurd (omega (arith, h.0, l))
     inside_of (suc t) h l = h.1.0
@@ -330,11 +331,11 @@ module _ (xs : List Record) (p : Phase) (e : SignalEvent) where
     there l = inside_of r.turns_left r.reach l
 
     -- a turn, with any record that stands at the index
-    turned : (t : ℕ) → Reach xs p e t zs x → x.index < x.length → Reached xs p e (set zs x.index (swap_of (get_or zs x.index none) x).after) (swap_of (get_or zs x.index none) x).exchange
+    turned : (t : ℕ) → Reach xs p e t zs x → x.index < x.length → Leads xs p e (set zs x.index (swap_of (get_or zs x.index none) x).after) (swap_of (get_or zs x.index none) x).exchange
     turned zero h l = absurd (omega (arith, h.0, l))
     turned (suc t) h l = record { turns_left = t; reach = h.1.1; few = swap_few (get_or zs x.index none) x r.few }
 
-    pub goes : (z : Record) → x.index < x.length → z ≡ get_or zs x.index none → Reached xs p e (set zs x.index (swap_of z x).after) (swap_of z x).exchange
+    pub goes : (z : Record) → x.index < x.length → z ≡ get_or zs x.index none → Leads xs p e (set zs x.index (swap_of z x).after) (swap_of z x).exchange
     goes z l is = rw is (turned r.turns_left r.reach l)
 
     finished : (t : ℕ) → Reach xs p e t zs x → x.length ≤ x.index → (zs ≡ row_after xs p e) × (x.reply ≡ row_reply xs p e)

@@ -8,7 +8,7 @@ use Rattle.std.proofs.lemmas.Bool.{eqb-false}
 use Rattle.basics.specs.Parts.{part, with_part}
 use Rattle.basics.specs.laws.Division.{div_mod_of}
 use Rattle.basics.specs.laws.Logic.{tested, holds, fails, lt_or_ge}
-use Rattle.basics.specs.laws.Tabulate.{length-tabulate, get_d_tabulate, tabulated_below}
+use Rattle.basics.specs.laws.Tabulate.{length-tabulate, get_or-tabulate, tabulated_below}
 
 pub part_long : (n i : ℕ) (l : List ℕ) → length (part n i l) ≡ n
 unfolding part
@@ -16,7 +16,7 @@ part_long n i l = length-tabulate n _
 
 pub part_at : (n i k : ℕ) (l : List ℕ) → k < n → get_or (part n i l) k 0 ≡ get_or l (n * i + k) 0
 unfolding part
-part_at n i k l h = get_d_tabulate n _ k h
+part_at n i k l h = get_or-tabulate n _ k h
 
 pub with_part_long : (m n i : ℕ) (p l : List ℕ) → length (with_part m n i p l) ≡ m * n
 unfolding with_part
@@ -32,7 +32,7 @@ place {n} {k} j h = div_mod_of j h (omega arith)
 
 with_at : (m n i j k : ℕ) (p l : List ℕ) → j < m → k < n → get_or (with_part m n i p l) (n * j + k) 0 ≡ cond (eqb j i) (get_or p k 0) (get_or l (n * j + k) 0)
 unfolding with_part
-with_at m n i j k p l h g = get_d_tabulate (m * n) _ (n * j + k) (inside h g) ∙ rw ((place j g).0, (place j g).1)
+with_at m n i j k p l h g = get_or-tabulate (m * n) _ (n * j + k) (inside h g) ∙ rw ((place j g).0, (place j g).1)
 
 pub with_same_at : (m n i k : ℕ) (p l : List ℕ) → i < m → k < n → get_or (with_part m n i p l) (n * i + k) 0 ≡ get_or p k 0
 with_same_at m n i k p l h g = with_at m n i i k p l h g ∙ rw (eq-eqb i i refl)
@@ -125,7 +125,7 @@ module _ (m n i : ℕ) (l : List ℕ) (long : length l ≡ m * n) (there : i < m
     unfolding with_part
     part_back =
         ext_get_or 0 given _ (given_long ∙ sym (length-tabulate (m * n) _))
-        (λ x lt. let h : x < m * n = rw given_long at lt in at_place x h ∙ sym (get_d_tabulate (m * n) _ x h))
+        (λ x lt. let h : x < m * n = rw given_long at lt in at_place x h ∙ sym (get_or-tabulate (m * n) _ x h))
 
 -- the same where code lends from n * i up to n * i + n
 module _ (m n i : ℕ) (l : List ℕ) (long : length l ≡ m * n) (there : i < m) where
@@ -146,9 +146,9 @@ pub with_twice : (m n i : ℕ) (p q l : List ℕ) → with_part m n i p (with_pa
 unfolding with_part
 with_twice m n i p q l =
     tabulated_below (m * n) _ _ (length-tabulate (m * n) _)
-    (λ k h. get_d_tabulate (m * n) _ k h ∙ elim (tested (eqb (k / n) i)) [
+    (λ k h. get_or-tabulate (m * n) _ k h ∙ elim (tested (eqb (k / n) i)) [
       | holds e ↦ rw e
-      | fails e ↦ rw e (get_d_tabulate (m * n) _ k h ∙ rw e)
+      | fails e ↦ rw e (get_or-tabulate (m * n) _ k h ∙ rw e)
     ])
 
 -- a list with a part of its own for that part

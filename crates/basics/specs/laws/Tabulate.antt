@@ -11,19 +11,19 @@ unfolding tabulate
 length-tabulate zero f = refl
 length-tabulate (suc n) f = rw (length-append (tabulate n f) (f n ∷ []), length-tabulate n f) (omega arith)
 
-pub get_d_tabulate : (n : ℕ) (f : ℕ → ℕ) (k : ℕ) → k < n → get_or (tabulate n f) k 0 ≡ f k
+pub get_or-tabulate : (n : ℕ) (f : ℕ → ℕ) (k : ℕ) → k < n → get_or (tabulate n f) k 0 ≡ f k
 unfolding tabulate
-get_d_tabulate zero f k h = absurd (not-suc-le-zero h)
-get_d_tabulate (suc n) f k h =
+get_or-tabulate zero f k h = absurd (not-suc-le-zero h)
+get_or-tabulate (suc n) f k h =
     ⊎_elim (λ (e : suc k ≡ suc n). rw (suc_inj e) (get_or_at (tabulate n f) (f n) [] 0 n (length-tabulate n f)))
-    (λ (l : suc k < suc n). get_or-append (tabulate n f) (f n ∷ []) 0 k (rw (length-tabulate n f) (le_of_suc-le-suc l)) ∙ get_d_tabulate n f k (le_of_suc-le-suc l))
+    (λ (l : suc k < suc n). get_or-append (tabulate n f) (f n ∷ []) 0 k (rw (length-tabulate n f) (le_of_suc-le-suc l)) ∙ get_or-tabulate n f k (le_of_suc-le-suc l))
     (eq-or-lt_of_le h)
 
 -- a list is known by its elements
 pub tabulated_below : (n : ℕ) (f : ℕ → ℕ) (l : List ℕ) → length l ≡ n → ((k : ℕ) → k < n → get_or l k 0 ≡ f k) → l ≡ tabulate n f
 tabulated_below n f l h at =
     ext_get_or 0 l (tabulate n f) (h ∙ sym (length-tabulate n f))
-    (λ k lt. let g : k < n = rw h at lt in at k g ∙ sym (get_d_tabulate n f k g))
+    (λ k lt. let g : k < n = rw h at lt in at k g ∙ sym (get_or-tabulate n f k g))
 
 pub tabulated : (n : ℕ) (f : ℕ → ℕ) (l : List ℕ) → length l ≡ n → ((k : ℕ) → get_or l k 0 ≡ f k) → l ≡ tabulate n f
 tabulated n f l h at = tabulated_below n f l h (λ k _. at k)

@@ -1,4 +1,4 @@
--- Lit counts of all outputs of a device over one wait: by what the outputs of a driver share, and by the LS bits of a blinker's.
+-- What the outputs of a driver share over one wait, and the lit steps of a blinker's output by its LS bits.
 use Rattle.std.specs.Prelude.{ℕ}
 use Rattle.lamp.specs.Window.{counted_ticks}
 use Rattle.lamp.specs.Blinker.{blinker_lit}

@@ -9,7 +9,7 @@ use Rattle.basics.specs.First.{all_first}
 use Rattle.basics.specs.Parts.{part}
 use Rattle.basics.specs.Tabulate.{tabulate}
 use Rattle.basics.specs.laws.Table.{at}
-use Rattle.basics.specs.laws.Tabulate.{get_d_tabulate}
+use Rattle.basics.specs.laws.Tabulate.{get_or-tabulate}
 use Rattle.lamp.specs.Window.{count_limit}
 use Rattle.chip.specs.Kinds.{is_driver, outputs_of}
 use Rattle.chip.specs.Registers.{mode1, mode2, pwm0, grppwm, grpfreq, ledout0, subadr1, is_buffered}
@@ -98,7 +98,7 @@ module _ (chip : Chip) (driver : is_driver chip ≡ true) (t : ℕ) (s : Setting
   unfolding in_effect is_buffered
   in_effect_lem r low high =
       rw (driver, le-leb pwm0 r low, lt-ltb r (subadr1 (outputs_of chip)) high)
-      (get_d_tabulate 28 (in_force (outputs_of chip) s) r (omega (arith, registers_few chip)))
+      (get_or-tabulate 28 (in_force (outputs_of chip) s) r (omega (arith, registers_few chip)))
 
   brightness : in_effect (driver_set chip t s) (pwm0 + s.out) ≡ s.N
   brightness = in_effect_lem (pwm0 + s.out) (omega arith) (omega arith) ∙ rw (eq-eqb (pwm0 + s.out) (pwm0 + s.out) refl) refl

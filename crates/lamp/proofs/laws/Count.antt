@@ -1,9 +1,9 @@
 -- Prefix counts (`Counts` of Cycle.antt). One gives every window's count (`window`).
 -- `every`, `first`, `opposite`, `only` and `cycle` make prefix counts, and the closed form of each mode is put together of them.
-use Rattle.std.specs.Prelude.{◌≡◌, refl, ◌⊎◌, Bool, true, false, not, ◌&&◌, ℕ, zero, suc, min, ◌+◌, ◌-◌, ◌*◌, ◌/◌, ◌%◌, ◌^◌, ◌≤◌, ◌<◌, ltb, leb}
-use Rattle.std.proofs.Common.{sym, ap, ◌∙◌, inl, inr, le_of_lt, zero-add, add-suc, add-zero, mod-lt, div-add-mod', mul-le-mul_right, eq-or-lt_of_le, add-one, arith, lit<, lt-ltb, le-ltb, le-leb, leb-true, leb-false, ltb-true, ltb-false}
+use Rattle.std.specs.Prelude.{◌≡◌, refl, Bool, true, false, not, ◌&&◌, ℕ, zero, suc, min, ◌+◌, ◌-◌, ◌*◌, ◌/◌, ◌%◌, ◌^◌, ◌≤◌, ◌<◌, ltb, leb}
+use Rattle.std.proofs.Common.{sym, ap, ◌∙◌, le_of_lt, zero-add, add-suc, add-zero, mod-lt, div-add-mod', mul-le-mul_right, add-one, arith, lit<, lt-ltb, le-ltb, le-leb, leb-true, leb-false, ltb-true, ltb-false}
 use Rattle.std.proofs.Math.Bool.{and-true, and-false}
-use Rattle.std.proofs.Math.Nat.{zero-min, zero-div, zero-mod, min-eq_left, min-eq_right}
+use Rattle.std.proofs.Math.Nat.{zero-min, min-eq_left, min-eq_right}
 use Rattle.std.proofs.Math.Arith.{digits_lt, mod-mul}
 use Rattle.std.proofs.lemmas.Bool.{lt-leb}
 use Rattle.basics.specs.laws.Division.{div_mod_of}

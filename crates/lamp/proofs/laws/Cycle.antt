@@ -1,5 +1,5 @@
 -- Prefix counts. `Counts lit F` says that F x is the number of lit ticks among the first x. `cycle` makes the one of a period, again and again.
-use Rattle.std.specs.Prelude.{◌≡◌, refl, ◌⊎◌, Bool, ℕ, suc, ◌+◌, ◌*◌, ◌/◌, ◌%◌, ◌<◌}
+use Rattle.std.specs.Prelude.{◌≡◌, ◌⊎◌, Bool, ℕ, suc, ◌+◌, ◌*◌, ◌/◌, ◌%◌, ◌<◌}
 use Rattle.std.proofs.Common.{ap, inl, inr, mod-lt, div-add-mod', eq-or-lt_of_le, arith}
 use Rattle.std.proofs.Math.Nat.{zero-div, zero-mod}
 use Rattle.basics.specs.laws.Division.{div_mod_of}

@@ -1,5 +1,4 @@
--- What the outputs of a driver share over a window: two stretches, one of all ticks and one of those at which the group test holds. An output's lit ticks are those of
--- one of them at its brightness (`awake_lit`, `asleep_lit`).
+-- What the outputs of a driver share over a window: two stretches, one of all ticks and one of those at which the group test holds.
 use Rattle.std.specs.Prelude.{Bool, cond, ℕ, ◌+◌, ◌-◌, ◌*◌, ◌/◌, ◌%◌, ◌^◌, min, ◌≤◌, ◌<◌, leb, eqb}
 use Rattle.std.proofs.Math.Dec.{ltb}
 use Rattle.lamp.specs.Window.{one_if, count_limit}

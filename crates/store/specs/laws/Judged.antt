@@ -1,8 +1,7 @@
--- A call's reply, from what the code finds in the bytes of a store.
+-- What room there is for a version, as the code finds it in the bytes of a store.
 use Rattle.std.specs.Prelude.{◌^◌, Bool, not, leb}
 use mathlib.Core.List.{List, [], ◌∷◌}
 use Rattle.refusals.specs.Refusals.{Refusal, refuse}
-use Rattle.store.specs.Saved.{found}
 use Rattle.store.specs.declared.room.Room.{Room}
 
 -- the refusals, from what is found in a store

@@ -1,11 +1,10 @@
--- The places of a store: what the bytes of a version say, what is found where, and that one place written is one version more.
-use Prim.Native.Nat.{ℕ, ◌-◌, ◌^◌, ◌≤◌, ◌<◌}
+-- The places of a store: which versions one can hold, and where one is found.
+use Prim.Native.Nat.{ℕ, ◌^◌, ◌≤◌, ◌<◌}
 use Rattle.std.specs.Prelude.{◌≡◌, Bool, true, not, ◌&&◌}
 use mathlib.Core.List.{List}
 use Rattle.std.proofs.Math.Dec.{eqb}
 use Rattle.std.proofs.Math.ListN.{length}
 use Rattle.basics.specs.Below.{first_below}
-use Rattle.basics.specs.laws.Logic.{holds}
 use Rattle.setting.specs.Setting.{setting_ok}
 use Rattle.store.specs.Saved.{Saved}
 use Rattle.store.specs.Layout.{version_in, table_in, place}

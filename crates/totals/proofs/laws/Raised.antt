@@ -5,7 +5,7 @@ use Rattle.std.proofs.Math.ListN.{length}
 use Rattle.std.proofs.Math.Seq.{get_or-set_other}
 use Rattle.std.proofs.lemmas.Bool.{eqb-false}
 use Rattle.basics.specs.laws.Logic.{tested, holds, fails}
-use Rattle.basics.specs.laws.Tabulate.{length-tabulate, get_d_tabulate, tabulated_below}
+use Rattle.basics.specs.laws.Tabulate.{length-tabulate, get_or-tabulate, tabulated_below}
 use Rattle.totals.specs.Totals.{raised}
 
 module _ (f : ℕ → ℕ) (l : List ℕ) where
@@ -15,7 +15,7 @@ module _ (f : ℕ → ℕ) (l : List ℕ) where
 
   raised_at : (n k : ℕ) → k < 16 → get_or (raised n f l) k 0 ≡ get_or l k 0 + cond (ltb k n) (f k) 0
   unfolding raised
-  raised_at n k h = get_d_tabulate 16 _ k h
+  raised_at n k h = get_or-tabulate 16 _ k h
 
   -- what is reached has grown, and what is not stays
   pub raised_there : (n k : ℕ) → k < 16 → k < n → get_or (raised n f l) k 0 ≡ get_or l k 0 + f k

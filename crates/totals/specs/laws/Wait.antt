@@ -1,4 +1,4 @@
--- A wait, output by output: what each one's totals grow by, and that both together stay within the limit.
+-- The lit steps of a blinker's outputs, by their LS bits.
 use Rattle.std.specs.Prelude.{cond, ℕ, zero, eqb}
 use Rattle.lamp.specs.declared.BlinkerSteps.{BlinkerSteps}
 use Rattle.device.specs.laws.Output.{lit_by}

@@ -1,4 +1,4 @@
--- `place_ok_lem`: free or held, by the version.
+-- `place_ok`: free or held, by the version.
 use Rattle.store.proofs.laws.Layout.{free_ok, held_ok_lem}
 use Rattle.store.proofs.place.place_ok.Goals as goal
 

@@ -11,7 +11,6 @@ loop-rest-preserved c =
     digits_more c.args.n l.digits l.first l.rest (omega (arith, l.invariant.0, l.invariant.1)) c.loop-rest-test.true l.invariant.2 in
     (search rules, simp length-set c.loop-rest.invariant.1, more.1)
 
--- clause written of the whole below
 pub returns-clause-written : goal.returns-clause-written
 returns-clause-written c =
     let all : take (20 - c.loop-rest.first) (drop c.loop-rest.first (set c.loop-rest.digits c.loop-rest.first (48 + c.loop-rest.rest))) ≡ decimal c.args.n = let l = c.loop-rest in
