@@ -1,6 +1,6 @@
 -- Promises that a device on a bus behaves as if it were alone there: with every other device removed, the events for others dropped and the rest turned to position 0, it has the same record
 -- after any sequence of events, any message and any recording. What the master hears may differ, and it is said how.
-use Rattle.std.specs.Prelude.{◌≡◌, refl, true, false, cond, List, ◌∷◌, ◌++◌, map, ℕ, ◌≤◌, length, get_or}
+use Rattle.std.specs.Prelude.{Option, Some, ◌≡◌, refl, true, false, cond, List, ◌∷◌, ◌++◌, map, ℕ, ◌≤◌, length, get_or}
 use Rattle.std.proofs.Common.{sym, ap, subst, ◌∙◌, le_refl, arith, eq-eqb}
 use Rattle.basics.specs.Below.{all_below}
 use Rattle.basics.specs.Bits.{bit}
@@ -16,16 +16,13 @@ use Rattle.bus.specs.declared.Event.TheVariants.{Add, Signal, Ask}
 use Rattle.bus.specs.declared.Question.{Question}
 use Rattle.message.specs.Write.{write_events, write_refusals, write_reply}
 use Rattle.message.specs.Read.{read_head, ack_at, gets_of, read_events, read_refusals, read_reply, bytes_got}
-use Rattle.replay.specs.Time.{since, after_time}
-use Rattle.replay.specs.Replay.{replayed, replay_bus}
+use Rattle.replay.specs.Time.{Clock, since, after_time}
+use Rattle.replay.specs.Replay.{stamped, replayed, replay_bus}
 use Rattle.replay.specs.ByHand.{waits_below, by_hand, all_by_hand, flat, AllAccepted}
 use Rattle.replay.proofs.Promises.{replay_event, replay_bus_lem, replay_on, replay_shape, recording_by_hand}
 use Rattle.replay.proofs.laws.Alike.{time_shape, time_count, time_places}
 use Rattle.replay.proofs.laws.Waits.{accepted_parts}
-use Rattle.replay.specs.declared.Clock.{Clock}
-use Rattle.replay.specs.declared.Clock.TheVariants.{At}
 use Rattle.replay.specs.declared.Entry.{Entry}
-use Rattle.replay.specs.declared.Entry.TheVariants.{Stamped}
 use Rattle.alone.specs.Alone.{only, alone, Present, concerns, renamed, shortened, is_silent, AsAlone, is_add, is_transfer, get_reply}
 use Rattle.alone.proofs.laws.Step.{alone_record, alone_well}
 use Rattle.alone.proofs.laws.Run.{run_present, kept, dropped, run, accepted, shortened_both}
@@ -83,13 +80,13 @@ module _ (i : ℕ) (b : Bus) (p : Present i b) where
   -- ---- a recording, by its waits and events by hand
 
   -- what is left of an accepted entry: the same entry by hand for the device alone, or, where its event is for others, the wait of its time
-  pub entry_kept : (clock : Clock) (at : ℕ) (e : Event) → concerns i e ≡ true → shortened i (by_hand b clock (Stamped at e)) ≡ by_hand (alone i b) clock (Stamped at (renamed e))
+  pub entry_kept : (clock : Clock) (at : ℕ) (e : Event) → concerns i e ≡ true → shortened i (by_hand b clock (stamped at e)) ≡ by_hand (alone i b) clock (stamped at (renamed e))
   entry_kept clock at e o = hand_kept i b p clock at e o
 
-  pub entry_dropped : (clock : Clock) (at : ℕ) (e : Event) → concerns i e ≡ false → shortened i (by_hand b clock (Stamped at e)) ≡ waits_below (since clock at) (alone i b) (alone i b).count
+  pub entry_dropped : (clock : Clock) (at : ℕ) (e : Event) → concerns i e ≡ false → shortened i (by_hand b clock (stamped at e)) ≡ waits_below (since clock at) (alone i b) (alone i b).count
   entry_dropped clock at e o = hand_dropped i b p clock at e o
 
-  pub recording_alone : (clock : Clock) (l : List Entry) → AllAccepted (alone i b) (shortened i (flat (all_by_hand b clock l))) × (record_at (run_bus (alone i b) (shortened i (flat (all_by_hand b clock l)))) 0 ≡ record_at (replay_bus b clock l) i)
+  pub recording_alone : (clock : Clock) (l : List (Option Entry)) → AllAccepted (alone i b) (shortened i (flat (all_by_hand b clock l))) × (record_at (run_bus (alone i b) (shortened i (flat (all_by_hand b clock l)))) 0 ≡ record_at (replay_bus b clock l) i)
   recording_alone clock l =
       let r = recording_by_hand b clock l p.0 in
       let s = record_alone (flat (all_by_hand b clock l)) r.0 in
@@ -125,9 +122,9 @@ module _ (b : Bus) (chip addr : ℕ) (h : bus_ok b ≡ true) (places : length b.
       ((add_accepted b chip addr a.0, rw same r.0), ap (λ (x : Bus). record_at (run_bus x (shortened b.count l)) 0) same ∙ r.1)
 
 -- by an entry of a recording
-module _ (b : Bus) (clock : Clock) (at chip addr : ℕ) (l : List Entry) (h : bus_ok b ≡ true) (places : length b.devices ≡ 8) (z : (replayed b clock (Stamped at (Add chip addr))).reply.code ≡ 0) where
+module _ (b : Bus) (clock : Clock) (at chip addr : ℕ) (l : List (Option Entry)) (h : bus_ok b ≡ true) (places : length b.devices ≡ 8) (z : (replayed b clock (stamped at (Add chip addr))).reply.code ≡ 0) where
   abbrev pub grown : Bus
-  grown = (replayed b clock (Stamped at (Add chip addr))).reply.bus
+  grown = (replayed b clock (stamped at (Add chip addr))).reply.bus
 
   abbrev passed : Bus
   passed = after_time (since clock at) b
@@ -135,17 +132,17 @@ module _ (b : Bus) (clock : Clock) (at chip addr : ℕ) (l : List Entry) (h : bu
   grown_is : grown ≡ (step_reply passed (Add chip addr)).bus
   grown_is = replay_bus_lem b clock at (Add chip addr) z
 
-  by_hand_lem : AllAccepted passed (Add chip addr ∷ flat (all_by_hand grown (At at) l)) × (run_bus passed (Add chip addr ∷ flat (all_by_hand grown (At at) l)) ≡ replay_bus b clock (Stamped at (Add chip addr) ∷ l))
+  by_hand_lem : AllAccepted passed (Add chip addr ∷ flat (all_by_hand grown (Some at) l)) × (run_bus passed (Add chip addr ∷ flat (all_by_hand grown (Some at) l)) ≡ replay_bus b clock (stamped at (Add chip addr) ∷ l))
   by_hand_lem =
-      let r = recording_by_hand grown (At at) l (replay_shape b clock (Stamped at (Add chip addr)) ∙ h) in (
-        (replay_event b clock at (Add chip addr) z, subst (λ (x : Bus). AllAccepted x (flat (all_by_hand grown (At at) l))) grown_is r.0),
-        ap (λ (x : Bus). run_bus x (flat (all_by_hand grown (At at) l))) (sym grown_is) ∙ r.2 ∙ sym (replay_on b clock at (Add chip addr) l z),
+      let r = recording_by_hand grown (Some at) l (replay_shape b clock (stamped at (Add chip addr)) ∙ h) in (
+        (replay_event b clock at (Add chip addr) z, subst (λ (x : Bus). AllAccepted x (flat (all_by_hand grown (Some at) l))) grown_is r.0),
+        ap (λ (x : Bus). run_bus x (flat (all_by_hand grown (Some at) l))) (sym grown_is) ∙ r.2 ∙ sym (replay_on b clock at (Add chip addr) l z),
       )
 
-  pub recorded_alone : AllAccepted empty_bus (Add chip addr ∷ shortened b.count (flat (all_by_hand grown (At at) l)))
-      × (record_at (run_bus empty_bus (Add chip addr ∷ shortened b.count (flat (all_by_hand grown (At at) l)))) 0 ≡ record_at (replay_bus b clock (Stamped at (Add chip addr) ∷ l)) b.count)
+  pub recorded_alone : AllAccepted empty_bus (Add chip addr ∷ shortened b.count (flat (all_by_hand grown (Some at) l)))
+      × (record_at (run_bus empty_bus (Add chip addr ∷ shortened b.count (flat (all_by_hand grown (Some at) l)))) 0 ≡ record_at (replay_bus b clock (stamped at (Add chip addr) ∷ l)) b.count)
   recorded_alone =
-      rw (by_hand_lem.1, time_count (since clock at) b) at (added_alone passed chip addr (time_shape (since clock at) b ∙ h) (time_places (since clock at) b ∙ places) (flat (all_by_hand grown (At at) l)) by_hand_lem.0)
+      rw (by_hand_lem.1, time_count (since clock at) b) at (added_alone passed chip addr (time_shape (since clock at) b ∙ h) (time_places (since clock at) b ∙ places) (flat (all_by_hand grown (Some at) l)) by_hand_lem.0)
 
 -- from an empty bus on, added before the first START: the device's own add, and what is left of all else
 pub early_alone : (before l : List Event) (chip addr : ℕ) → all is_silent before ≡ true → AllAccepted empty_bus (before ++ Add chip addr ∷ l)

@@ -5,6 +5,7 @@ pub mod Divisors
 pub mod Lists
 pub mod Tabulate
 pub mod Below
+pub mod Chains
 pub mod Parts
 pub mod Bits
 pub mod First

@@ -8,6 +8,7 @@ ghost use Rattle.blink.specs.Start.{common_start};
 use lamp::BlinkerSteps;
 
 // Euclid's algorithm; each remainder is smaller than the last.
+#[tactic(auto, using(basics::specs::laws::Divisors::gcd_none, basics::specs::laws::Divisors::gcd_step))]
 fn gcd(a: u64, b: u64) -> u64
     ensures { result ≡ gcd_of a b }
 {
@@ -15,7 +16,7 @@ fn gcd(a: u64, b: u64) -> u64
 }
 
 // The least common multiple of two numbers from 1 to 256.
-#[tactic(auto, unfolding(basics::specs::Divisors::lcm_of))]
+#[tactic(auto, using(basics::specs::laws::Divisors::gcd_pos), unfolding(basics::specs::Divisors::lcm_of))]
 fn lcm(a: u64, b: u64) -> u64
     requires { (0 < a) × (a ≤ 256) × (0 < b) × (b ≤ 256) }
     ensures value { result ≡ lcm_of a b }

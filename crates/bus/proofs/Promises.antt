@@ -1,6 +1,6 @@
 -- Promises on every event, for any bus (demand 1): the code is the least number whose condition holds; a refused event has value 0 and leaves the bus as it was;
 -- a well-formed bus stays well formed, and is never refused for its shape.
-use Rattle.std.specs.Prelude.{◌≡◌, Bool, true, false, not, ◌&&◌, ◌⊎◌, List, [], ◌∷◌, ℕ, ◌/◌, ◌^◌, ◌≤◌, ◌<◌, ltb, length, take}
+use Rattle.std.specs.Prelude.{Option, Some, None, ◌≡◌, Bool, true, false, not, ◌&&◌, ◌⊎◌, List, [], ◌∷◌, ℕ, ◌/◌, ◌^◌, ◌≤◌, ◌<◌, ltb, length, take}
 use Rattle.std.proofs.Math.Path.{refl}
 use Rattle.std.proofs.Common.{sym, ap, ◌∙◌, inl, inr, arith, lt-ltb}
 use Rattle.std.proofs.Math.Bool.{true≢false}
@@ -40,8 +40,6 @@ use Rattle.bus.specs.declared.Event.{Event}
 use Rattle.bus.specs.declared.Event.TheVariants.{Signal, Change}
 use Rattle.bus.specs.declared.SignalEvent.TheVariants.{Put}
 use Rattle.bus.specs.declared.Reply.{Reply}
-use Rattle.bus.specs.declared.Request.{Request}
-use Rattle.bus.specs.declared.Request.TheVariants.{Known, Unknown}
 
 -- ---- the code
 
@@ -79,9 +77,9 @@ IsNumbered b r = ((e : Event) × (r ≡ step_reply b e)) ⊎ (r ≡ refused_with
 pub numbered_is : (b : Bus) (number x y z : ℕ) → IsNumbered b (numbered_reply b number x y z)
 numbered_is b number x y z = go (event_numbered number x y z)
   where
-    go : (r : Request) → IsNumbered b (request_reply b r)
-    go (Known e) = inl (e, refl)
-    go Unknown = inr refl
+    go : (r : Option Event) → IsNumbered b (request_reply b r)
+    go (Some e) = inl (e, refl)
+    go None = inr refl
 
 -- ---- wait and lit in a unit
 

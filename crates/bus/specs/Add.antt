@@ -1,9 +1,8 @@
 -- A further device: its refusals, and the bus with it (RULES, Events; the table of refusals is in docs/DECISIONS.md).
-use Rattle.std.specs.Prelude.{ℕ, not, List, [], ◌∷◌, leb}
+use Rattle.std.specs.Prelude.{Option, Some, None, ℕ, not, List, [], ◌∷◌, leb}
+use Rattle.chip.specs.declared.Chip.{Chip}
 use Rattle.chip.specs.Kinds.{chip_numbered, is_unknown}
 use Rattle.chip.specs.Addresses.{is_barred}
-use Rattle.chip.specs.declared.Lookup.{Lookup}
-use Rattle.chip.specs.declared.Lookup.TheVariants.{Known, Unknown}
 use Rattle.device.specs.Reset.{fresh}
 use Rattle.protocol.specs.Signals.{is_open}
 use Rattle.refusals.specs.Refusals.{Refusal, refuse}
@@ -20,6 +19,6 @@ add_refusals b chip address =
     ∷ refuse 5 (is_open b.phase)
     ∷ []
 
-abbrev pub added_to : Bus → Lookup → ℕ → Bus
-added_to b Unknown address = b
-added_to b (Known chip) address = with_added b (fresh chip address)
+abbrev pub added_to : Bus → Option Chip → ℕ → Bus
+added_to b None address = b
+added_to b (Some chip) address = with_added b (fresh chip address)

@@ -1,5 +1,5 @@
 -- One event, by its name or by its number, and a run of events.
-use Rattle.std.specs.Prelude.{ℕ, cond, List, [], ◌∷◌, ◌++◌, eqb}
+use Rattle.std.specs.Prelude.{Option, Some, None, ℕ, cond, List, [], ◌∷◌, ◌++◌, eqb}
 use Rattle.chip.specs.Kinds.{chip_numbered}
 use Rattle.refusals.specs.Refusals.{Refusal}
 use Rattle.bus.specs.Devices.{device_at, record_at, with_record, bus_after}
@@ -13,8 +13,6 @@ use Rattle.bus.specs.declared.Event.{Event}
 use Rattle.bus.specs.declared.Event.TheVariants.{Add, Signal, Change, Ask}
 use Rattle.bus.specs.declared.Question.TheVariants as Q
 use Rattle.bus.specs.declared.Reply.{Reply}
-use Rattle.bus.specs.declared.Request.{Request}
-use Rattle.bus.specs.declared.Request.TheVariants.{Known, Unknown}
 use Rattle.bus.specs.declared.SignalEvent.TheVariants as S
 
 -- the numbers that an event can be refused with
@@ -47,25 +45,25 @@ lit_reply b dev out ticks = step_reply b (Ask dev (Q.Lit out ticks))
 -- ---- what names an event, or none
 
 -- 4 where it names none
-abbrev pub request_reply : Bus → Request → Reply
-request_reply b (Known e) = step_reply b e
-request_reply b Unknown = refused_with b 4
+abbrev pub request_reply : Bus → Option Event → Reply
+request_reply b (Some e) = step_reply b e
+request_reply b None = refused_with b 4
 
 -- events by number, 1 to 11 in the order of the list of lines (RULES, Text), with as many of the arguments as the event has
-unfoldable pub event_numbered : ℕ → ℕ → ℕ → ℕ → Request
+unfoldable pub event_numbered : ℕ → ℕ → ℕ → ℕ → Option Event
 event_numbered number x y z =
-    cond (eqb number 1) (Known (Add x y))
-    (cond (eqb number 2) (Known (Signal S.Start))
-    (cond (eqb number 3) (Known (Signal (S.Put x)))
-    (cond (eqb number 4) (Known (Signal (S.Get x)))
-    (cond (eqb number 5) (Known (Signal S.Stop))
-    (cond (eqb number 6) (Known (Change x (C.Wait y)))
-    (cond (eqb number 7) (Known (Change x (C.Oe y)))
-    (cond (eqb number 8) (Known (Change x (C.Ext y)))
-    (cond (eqb number 9) (Known (Change x C.Reset))
-    (cond (eqb number 10) (Known (Ask x (Q.Lit y z)))
-    (cond (eqb number 11) (Known (Ask x (Q.Pin y)))
-    Unknown))))))))))
+    cond (eqb number 1) (Some (Add x y))
+    (cond (eqb number 2) (Some (Signal S.Start))
+    (cond (eqb number 3) (Some (Signal (S.Put x)))
+    (cond (eqb number 4) (Some (Signal (S.Get x)))
+    (cond (eqb number 5) (Some (Signal S.Stop))
+    (cond (eqb number 6) (Some (Change x (C.Wait y)))
+    (cond (eqb number 7) (Some (Change x (C.Oe y)))
+    (cond (eqb number 8) (Some (Change x (C.Ext y)))
+    (cond (eqb number 9) (Some (Change x C.Reset))
+    (cond (eqb number 10) (Some (Ask x (Q.Lit y z)))
+    (cond (eqb number 11) (Some (Ask x (Q.Pin y)))
+    None))))))))))
 
 abbrev pub numbered_reply : Bus → ℕ → ℕ → ℕ → ℕ → Reply
 numbered_reply b number x y z = request_reply b (event_numbered number x y z)

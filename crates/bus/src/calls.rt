@@ -1,6 +1,5 @@
 // The calls on a bus. Each judges the bus that it is handed and asks nothing of its caller.
 ghost use Rattle.std.specs.Prelude.{◌≡◌};
-ghost use Rattle.lamp.specs.declared.Duration.TheVariants.{Ticks, Steps};
 ghost use Rattle.bus.specs.declared.Change.TheVariants as C;
 ghost use Rattle.bus.specs.declared.Event.TheVariants as E;
 ghost use Rattle.bus.specs.declared.Question.TheVariants as Q;
@@ -9,13 +8,13 @@ ghost use Rattle.bus.specs.Place.{blink_reply};
 ghost use Rattle.bus.specs.Units.{wait_for_reply, lit_for_reply};
 ghost use Rattle.bus.specs.Events.{step_reply, numbered_reply};
 
-use crate::{Bus, Change, Event, Question, Reply, SignalEvent};
-use lamp::{BlinkerSteps, DriverTicks, Duration};
+use crate::{Bus, Change, Event, Judged, Question, Reply, SignalEvent, event_numbered};
+use lamp::Unit;
 
 pub fn step(bus: Bus, event: Event) -> Reply
     ensures { result ≡ step_reply bus event }
 {
-    crate::proved_callers::step_judged(crate::devices::is_ok(bus), bus, event)
+    Judged::new(bus).step(event)
 }
 
 // ---- events by name
@@ -26,7 +25,7 @@ pub fn add(bus: Bus, chip: u64, address: u64) -> Reply
     step(
         bus,
         Event::Add {
-            chip: chip,
+            chip,
             addr: address,
         },
     )
@@ -62,7 +61,7 @@ pub fn wait(bus: Bus, dev: u64, ticks: u64) -> Reply
     step(
         bus,
         Event::Change {
-            dev: dev,
+            dev,
             change: Change::Wait(ticks),
         },
     )
@@ -74,7 +73,7 @@ pub fn oe(bus: Bus, dev: u64, level: u64) -> Reply
     step(
         bus,
         Event::Change {
-            dev: dev,
+            dev,
             change: Change::Oe(level),
         },
     )
@@ -86,7 +85,7 @@ pub fn ext(bus: Bus, dev: u64, level: u64) -> Reply
     step(
         bus,
         Event::Change {
-            dev: dev,
+            dev,
             change: Change::Ext(level),
         },
     )
@@ -98,7 +97,7 @@ pub fn reset(bus: Bus, dev: u64) -> Reply
     step(
         bus,
         Event::Change {
-            dev: dev,
+            dev,
             change: Change::Reset,
         },
     )
@@ -110,11 +109,8 @@ pub fn lit(bus: Bus, dev: u64, out: u64, ticks: u64) -> Reply
     step(
         bus,
         Event::Ask {
-            dev: dev,
-            question: Question::Lit {
-                out: out,
-                ticks: ticks,
-            },
+            dev,
+            question: Question::Lit { out, ticks },
         },
     )
 }
@@ -125,7 +121,7 @@ pub fn pin(bus: Bus, dev: u64, out: u64) -> Reply
     step(
         bus,
         Event::Ask {
-            dev: dev,
+            dev,
             question: Question::Pin(out),
         },
     )
@@ -135,42 +131,27 @@ pub fn pin(bus: Bus, dev: u64, out: u64) -> Reply
 pub fn numbered(bus: Bus, number: u64, x: u64, y: u64, z: u64) -> Reply
     ensures { result ≡ numbered_reply bus number x y z }
 {
-    let request = crate::events::event_numbered(number, x, y, z);
-    crate::proved_callers::request_judged(crate::devices::is_ok(bus), bus, request)
+    Judged::new(bus).request(event_numbered(number, x, y, z))
 }
 
 // ---- beyond the events
 
-// For ticks, which only a driver has, and for steps, which only a blinker has.
-pub fn wait_ticks(bus: Bus, dev: u64, ticks: DriverTicks) -> Reply
-    ensures { result ≡ wait_for_reply bus dev (Ticks ticks) }
+// For ticks, which only a driver has, or for steps, which only a blinker has.
+pub fn wait_for<U: Unit>(bus: Bus, dev: u64, wait: U) -> Reply
+    ensures { result ≡ wait_for_reply bus dev (U.duration wait) }
 {
-    crate::units::wait_for(crate::devices::is_ok(bus), bus, dev, Duration::Ticks(ticks))
+    Judged::new(bus).wait_for(dev, wait.duration())
 }
 
-pub fn wait_steps(bus: Bus, dev: u64, steps: BlinkerSteps) -> Reply
-    ensures { result ≡ wait_for_reply bus dev (Steps steps) }
+pub fn lit_for<U: Unit>(bus: Bus, dev: u64, out: u64, window: U) -> Reply
+    ensures { result ≡ lit_for_reply bus dev out (U.duration window) }
 {
-    crate::units::wait_for(crate::devices::is_ok(bus), bus, dev, Duration::Steps(steps))
-}
-
-pub fn lit_ticks(bus: Bus, dev: u64, out: u64, ticks: DriverTicks) -> Reply
-    ensures { result ≡ lit_for_reply bus dev out (Ticks ticks) }
-{
-    let ok = crate::devices::is_ok(bus);
-    crate::units::lit_for(ok, bus, dev, out, Duration::Ticks(ticks))
-}
-
-pub fn lit_steps(bus: Bus, dev: u64, out: u64, steps: BlinkerSteps) -> Reply
-    ensures { result ≡ lit_for_reply bus dev out (Steps steps) }
-{
-    let ok = crate::devices::is_ok(bus);
-    crate::units::lit_for(ok, bus, dev, out, Duration::Steps(steps))
+    Judged::new(bus).lit_for(dev, out, window.duration())
 }
 
 // The steps after which both blinks of a blinker begin together again.
 pub fn blink_start(bus: Bus, dev: u64) -> Reply
     ensures { result ≡ blink_reply bus dev }
 {
-    crate::place::blink_start(crate::devices::is_ok(bus), bus, dev)
+    Judged::new(bus).blink_start(dev)
 }

@@ -11,7 +11,7 @@ use device::Device;
 pub fn counted(chip: Chip, mode1: u8, count: u64) -> Device
     ensures { result ≡ with_count (with_written (fresh chip 0) (set (fresh chip 0).written 0 mode1)) count }
 {
-    let mut next = device::fresh(chip, 0);
+    let mut next = Device::fresh(chip, 0);
     next.written[0] = mode1;
     next.count = count;
     next

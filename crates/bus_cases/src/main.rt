@@ -3,10 +3,13 @@
 #![tactic(auto)]
 
 mod buses;
+mod codes;
 mod handed;
 mod sums;
 
-fn main() {
-    buses::run();
-    sums::run();
+use std::io;
+
+fn main(rt: HostRuntime) -> io::Result<()> {
+    buses::run(&rt)?;
+    sums::run(&rt)
 }

@@ -6,8 +6,10 @@ mod events;
 mod messages;
 mod starts;
 
-fn main() {
-    messages::run();
-    events::run();
-    starts::run();
+use std::io;
+
+fn main(rt: HostRuntime) -> io::Result<()> {
+    messages::run(&rt)?;
+    events::run(&rt)?;
+    starts::run(&rt)
 }

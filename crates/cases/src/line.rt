@@ -1,63 +1,51 @@
-// The parts of a printed line. A number and a byte have a space before them.
+// The parts of a printed line.
 use bus::Reply;
+use refusals::Reason;
+use std::fmt;
 
-pub fn text(part: &[u8]) {
-    io::write_all(1, part);
+// The number of a refusal, or 0, and the value, as a line prints both.
+#[derive(Clone, Copy, Debug, PartialEq, Eq)]
+pub struct Answer {
+    pub code: u64,
+    pub value: u64,
 }
 
-pub fn number(n: u64) {
-    io::write_all(1, b" ");
-    io::print_decimal(1, n);
-}
-
-// In hexadecimal, as the data sheets have it.
-pub fn byte(b: u8) {
-    io::write_all(1, b" ");
-    io::print_hex(1, b as u64, 2);
-}
-
-pub fn slice(part: &[u8]) {
-    for i in 0..part.len() {
-        byte(part[i]);
+impl From<Reply> for Answer {
+    fn from(reply: Reply) -> Answer {
+        Answer {
+            code: reply.code,
+            value: reply.value,
+        }
     }
 }
 
-// A chip's number; a word and a number, a byte, a reply's code or its value.
-pub fn chip(number: u64) {
-    io::print_decimal(1, number);
+impl From<Result<u64, Reason>> for Answer {
+    fn from(answer: Result<u64, Reason>) -> Answer {
+        match answer {
+            Ok(value) => Answer { code: 0, value },
+            Err(reason) => Answer {
+                code: u64::from(reason),
+                value: 0,
+            },
+        }
+    }
 }
 
-pub fn named(word: &[u8], n: u64) {
-    io::write_all(1, word);
-    io::print_decimal(1, n);
+impl fmt::Display for Answer {
+    fn fmt<W: fmt::Write>(&self, f: &mut fmt::Formatter<W>) -> fmt::Result {
+        write!(f, "code={} value={}", self.code, self.value)
+    }
 }
 
-pub fn named_byte(word: &[u8], b: u8) {
-    io::write_all(1, word);
-    io::print_hex(1, b as u64, 2);
-}
+// Bytes in hexadecimal, as the data sheets have them, with a space before each.
+#[derive(Clone, Copy)]
+pub struct Bytes<'a>(pub &'a [u8]);
 
-pub fn named_code(word: &[u8], reply: Reply) {
-    named(word, reply.code);
-}
-
-pub fn named_value(word: &[u8], reply: Reply) {
-    named(word, reply.value);
-}
-
-pub fn end() {
-    io::write_all(1, b"\n");
-}
-
-pub fn value(reply: Reply) {
-    number(reply.value);
-}
-
-pub fn code(reply: Reply) {
-    number(reply.code);
-}
-
-pub fn answer(reply: Reply) {
-    named_code(b" code=", reply);
-    named_value(b" value=", reply);
+impl fmt::Display for Bytes<'_> {
+    fn fmt<W: fmt::Write>(&self, f: &mut fmt::Formatter<W>) -> fmt::Result {
+        for byte in self.0 {
+            write!(f, " {byte:02x}")?;
+        }
+        Ok(())
+    }
 }

@@ -1,5 +1,5 @@
 -- What the definitions of this crate come to: the rules' tables as they are printed, and that the pointer never leaves the chip's registers.
-use Rattle.std.specs.Prelude.{◌≡◌, refl, Bool, true, not, ◌&&◌, ◌||◌, ℕ, ◌<◌, leb}
+use Rattle.std.specs.Prelude.{Some, ◌≡◌, refl, Bool, true, not, ◌&&◌, ◌||◌, ℕ, ◌<◌, leb}
 use Rattle.basics.specs.laws.Table.{all_below, agree, follow}
 use Rattle.chip.specs.Kinds.{number_of, chip_numbered}
 use Rattle.chip.specs.Registers.{register_map}
@@ -8,7 +8,6 @@ use Rattle.chip.specs.Values.{reset_control}
 use Rattle.chip.specs.laws.Control.{driver_byte, blinker_byte}
 use Rattle.chip.specs.declared.Chip.{Chip}
 use Rattle.chip.specs.declared.Chip.TheVariants.{Pca9635, Pca9634, Pca9531, Pca9551}
-use Rattle.chip.specs.declared.Lookup.TheVariants.{Known}
 
 -- 16 and 8 outputs give the two columns of the rules' register map
 pub columns :
@@ -17,7 +16,7 @@ pub columns :
 columns = (refl, refl)
 
 -- a chip is found by its number
-pub found_by_number : (chip : Chip) → chip_numbered (number_of chip) ≡ Known chip
+pub found_by_number : (chip : Chip) → chip_numbered (number_of chip) ≡ Some chip
 found_by_number Pca9635 = refl
 found_by_number Pca9634 = refl
 found_by_number Pca9531 = refl

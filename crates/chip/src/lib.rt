@@ -2,19 +2,15 @@
 #![tactic(auto)]
 
 mod addresses;
-pub mod control;
+mod control;
 mod kinds;
 mod registers;
-pub mod values;
+mod values;
 
-pub use addresses::{address_allowed, is_barred};
-pub use kinds::{chip_numbered, is_driver, is_unknown, number_of, outputs};
-pub use registers::{
-    BLINK_PWM0, INPUT, LS0, MODE1, MODE2, PSC0, PWM0, first_writable, is_buffered, register_map,
-    writables,
-};
+pub use addresses::is_barred;
+pub use registers::{BLINK_PWM0, INPUT, LS0, MODE1, MODE2, PSC0, PWM0};
 
-#[derive(Clone, Copy)]
+#[derive(Clone, Copy, Debug, PartialEq, Eq)]
 pub enum Chip {
     Pca9635,
     Pca9634,
@@ -22,15 +18,12 @@ pub enum Chip {
     Pca9551,
 }
 
-// What a chip's number names.
-#[derive(Clone, Copy)]
-pub enum Lookup {
-    Known(Chip),
-    Unknown,
-}
+// A number that no chip has.
+#[derive(Clone, Copy, Debug, PartialEq, Eq)]
+pub struct UnknownChip(pub u64);
 
 // Where a driver's registers start, after MODE1, MODE2 and the PWMs.
-#[derive(Clone, Copy)]
+#[derive(Clone, Copy, Debug, PartialEq, Eq)]
 pub struct RegisterMap {
     pub grppwm: u8,
     pub grpfreq: u8,

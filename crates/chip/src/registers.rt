@@ -21,69 +21,45 @@ pub const BLINK_PWM0: u8 = 2;
 
 pub const LS0: u8 = 5;
 
-// What `register_map` gives for each driver.
-pub mod pca9635 {
-    pub const GRPPWM: usize = 18;
-
-    pub const SUBADR1: usize = 24;
-
-    pub const ALLCALLADR: usize = 27;
-}
-
-pub mod pca9634 {
-    pub const GRPPWM: usize = 10;
-
-    pub const SUBADR1: usize = 14;
-
-    pub const ALLCALLADR: usize = 17;
-}
-
-// A blinker has no such map: for one this is the map of a driver with as many outputs.
-pub fn register_map(chip: Chip) -> RegisterMap
-    ensures { result ≡ register_map (outputs_of chip) }
-{
-    let n = crate::outputs(chip);
-    RegisterMap {
-        grppwm: n + 2,
-        grpfreq: n + 3,
-        ledout0: n + 4,
-        subadr1: n + 4 + n / 4,
-        allcalladr: n + 7 + n / 4,
-    }
-}
-
-// Whether the chip holds this register as written and as in effect.
-#[tactic(auto, unfolding(crate::specs::Registers::is_buffered))]
-pub fn is_buffered(chip: Chip, register: usize) -> bool
-    ensures { result ≡ is_buffered chip register }
-{
-    if crate::is_driver(chip) {
-        let map = register_map(chip);
-        if PWM0 as usize <= register {
-            register < map.subadr1 as usize
-        } else {
-            false
+impl Chip {
+    // A blinker has no such map: for one this is the map of a driver with as many outputs.
+    pub fn register_map(self) -> RegisterMap
+        ensures { result ≡ register_map (outputs_of self) }
+    {
+        let n = self.outputs();
+        RegisterMap {
+            grppwm: n + 2,
+            grpfreq: n + 3,
+            ledout0: n + 4,
+            subadr1: n + 4 + n / 4,
+            allcalladr: n + 7 + n / 4,
         }
-    } else {
-        false
     }
-}
 
-// The first register that can be written.
-pub fn first_writable(chip: Chip) -> u8
-    ensures { result ≡ first_writable chip }
-{
-    if crate::is_driver(chip) { MODE1 } else { PSC0 }
-}
+    // Whether the chip holds this register as written and as in effect.
+    #[tactic(auto, unfolding(crate::specs::Registers::is_buffered))]
+    pub fn is_buffered(self, register: usize) -> bool
+        ensures { result ≡ is_buffered self register }
+    {
+        self.is_driver()
+            && (PWM0 as usize..self.register_map().subadr1 as usize).contains(&register)
+    }
 
-// How many registers can be written, from the first on.
-pub fn writables(chip: Chip) -> u8
-    ensures { result ≡ writables chip }
-{
-    if crate::is_driver(chip) {
-        let map = register_map(chip);
-        map.allcalladr + 1
-    } else {
-        LS0 + 1
+    // The first register that can be written.
+    pub fn first_writable(self) -> u8
+        ensures { result ≡ first_writable self }
+    {
+        if self.is_driver() { MODE1 } else { PSC0 }
+    }
+
+    // How many registers can be written, from the first on.
+    pub fn writables(self) -> u8
+        ensures { result ≡ writables self }
+    {
+        if self.is_driver() {
+            self.register_map().allcalladr + 1
+        } else {
+            LS0 + 1
+        }
     }
 }

@@ -4,22 +4,22 @@ use Rattle.device.specs.declared.Stage.{Stage}
 use Rattle.device.specs.declared.Device.{Device}
 
 abbrev pub with_stage : Device → Stage → Device
-with_stage d x = record { chip = d.chip; stage = x; address = d.address; control = d.control; count = d.count; oe = d.oe; levels = d.levels; written = d.written; effective = d.effective }
+with_stage d x = record d { stage = x }
 
 abbrev pub with_control : Device → ℕ → Device
-with_control d x = record { chip = d.chip; stage = d.stage; address = d.address; control = x; count = d.count; oe = d.oe; levels = d.levels; written = d.written; effective = d.effective }
+with_control d x = record d { control = x }
 
 abbrev pub with_count : Device → ℕ → Device
-with_count d x = record { chip = d.chip; stage = d.stage; address = d.address; control = d.control; count = x; oe = d.oe; levels = d.levels; written = d.written; effective = d.effective }
+with_count d x = record d { count = x }
 
 abbrev pub with_oe : Device → Bool → Device
-with_oe d x = record { chip = d.chip; stage = d.stage; address = d.address; control = d.control; count = d.count; oe = x; levels = d.levels; written = d.written; effective = d.effective }
+with_oe d x = record d { oe = x }
 
 abbrev pub with_levels : Device → ℕ → Device
-with_levels d x = record { chip = d.chip; stage = d.stage; address = d.address; control = d.control; count = d.count; oe = d.oe; levels = x; written = d.written; effective = d.effective }
+with_levels d x = record d { levels = x }
 
 abbrev pub with_written : Device → List ℕ → Device
-with_written d x = record { chip = d.chip; stage = d.stage; address = d.address; control = d.control; count = d.count; oe = d.oe; levels = d.levels; written = x; effective = d.effective }
+with_written d x = record d { written = x }
 
 abbrev pub with_effective : Device → List ℕ → Device
-with_effective d x = record { chip = d.chip; stage = d.stage; address = d.address; control = d.control; count = d.count; oe = d.oe; levels = d.levels; written = d.written; effective = x }
+with_effective d x = record d { effective = x }

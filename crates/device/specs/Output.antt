@@ -16,6 +16,8 @@ use Rattle.chip.specs.declared.Chip.TheVariants.{Pca9635, Pca9634, Pca9531, Pca9
 use Rattle.device.specs.Registers.{held, in_effect, is_awake, is_blinking, is_inverted, is_totem_pole, outne}
 use Rattle.device.specs.Wait.{is_own}
 use Rattle.device.specs.declared.Device.{Device}
+use Rattle.device.specs.declared.Level.{Level}
+use Rattle.device.specs.declared.Level.TheVariants.{Low, High, HighZ}
 
 -- an output's two bits of a byte that holds those of four, the lowest output lowest
 abbrev pub pair_of : ℕ → ℕ → ℕ
@@ -80,6 +82,11 @@ high = 1
 
 abbrev pub high_z : ℕ
 high_z = 2
+
+abbrev pub level_number : Level → ℕ
+level_number Low = low
+level_number High = high
+level_number HighZ = high_z
 
 -- what a driver's pin does when it is not pulled low
 abbrev pub undriven : Device → ℕ

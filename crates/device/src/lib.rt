@@ -7,16 +7,13 @@ mod fields;
 pub mod output;
 pub mod registers;
 mod reset;
-pub mod start;
+mod start;
 pub mod wait;
-pub mod well_formed;
-
-pub use fields::{with_levels, with_oe, with_stage};
-pub use reset::{after_reset, fresh};
+mod well_formed;
 
 // What a device is doing in the message on the bus: Talking is the rules' "talking"; Control, Data and the last three are their "listening".
 // The last three are the software reset call: 06h taken, then A5h, then 5Ah.
-#[derive(Clone, Copy)]
+#[derive(Clone, Copy, Debug, PartialEq, Eq)]
 pub enum Stage {
     Unselected,
     Control,
@@ -28,13 +25,32 @@ pub enum Stage {
 }
 
 // The message on the bus: none, one whose address is due, a write, a read, and a read after a get that was not acknowledged.
-#[derive(Clone, Copy)]
+#[derive(Clone, Copy, Debug, PartialEq, Eq)]
 pub enum Phase {
     Idle,
     Address,
     Write,
     Read,
     Ended,
+}
+
+// The level of a pin.
+#[derive(Clone, Copy, Debug, PartialEq, Eq)]
+pub enum Level {
+    Low,
+    High,
+    HighZ,
+}
+
+impl From<Level> for u64 {
+    ghost use Rattle.std.specs.Prelude.{◌≡◌};
+    ghost use Rattle.device.specs.Output.{level_number};
+
+    ghost from_gives = { λ level number. number ≡ level_number level };
+
+    fn from(level: Level) -> u64 {
+        level as u64
+    }
 }
 
 #[derive(Clone, Copy)]

@@ -1,80 +1,67 @@
 // What an output follows, whether it is lit, for how many ticks, and the level of its pin.
 ghost use Rattle.std.specs.Prelude.{◌≡◌, cond, ◌<◌};
 ghost use Rattle.lamp.specs.declared.Duration.TheVariants.{Ticks, Steps};
+ghost use Rattle.lamp.specs.Window.{counted_ticks};
 ghost use Rattle.chip.specs.Kinds.{outputs_of};
+ghost use Rattle.chip.specs.Registers.{grpfreq};
+ghost use Rattle.device.specs.Registers.{in_effect, is_awake, is_blinking};
+ghost use Rattle.device.specs.Wait.{is_own};
 ghost use Rattle.device.specs.laws.Output.{grppwm_of, driver_shared};
-ghost use Rattle.device.specs.Output.{pair_of, ledout_of, driver_output, blinker_mode, ls_of, blink_of, blinker_by, blinker_output, lit_now, lit_for, undriven, disabled_pin, driver_pin, pin_of, input_bit, input_byte};
+ghost use Rattle.device.specs.Output.{pair_of, ledout_of, driver_output, blinker_mode, ls_of, blink_of, blinker_by, blinker_output, lit_now, lit_for, undriven, disabled_pin, driver_pin, level_number, pin_of, input_bit, input_byte};
 
-use crate::{Device, registers};
+use crate::{Device, Level, registers};
 use chip::Chip;
-use lamp::{BlinkerMode, BlinkerSteps, DriverMode, DriverTicks, Shared};
-
-// The levels of a pin.
-const LOW: u64 = 0;
-
-const HIGH: u64 = 1;
-
-const HIGH_Z: u64 = 2;
+use lamp::{
+    BlinkerMode, BlinkerSteps, DriverMode, DriverTicks, GroupRegisters, Mode, Shared, Unit,
+};
 
 // An output's two bits of a byte that holds those of four.
 pub fn pair(byte: u8, out: u8) -> u8
     ensures { result ≡ pair_of byte out }
 {
-    let place = out % 4;
-    (byte >> (2 * place)) % 4
+    (byte >> (2 * (out % 4))) % 4
 }
 
-fn ledout_of(d: Device, out: u8) -> u8
-    ensures { result ≡ ledout_of d (outputs_of d.chip) out }
-{
-    let chip = d.chip;
-    let map = chip::register_map(chip);
-    let group = map.ledout0 as usize + out as usize / 4;
-    pair(registers::in_effect(d, group), out)
-}
-
-#[tactic(auto, unfolding(crate::specs::Output::driver_output))]
-fn driver_output(d: Device, out: u8) -> DriverMode
-    ensures { result ≡ driver_output d (outputs_of d.chip) out }
-{
-    let chip = d.chip;
-    let map = chip::register_map(chip);
-    let ledout = ledout_of(d, out);
-    let pwm = registers::in_effect(d, chip::PWM0 as usize + out as usize);
-    let grppwm = registers::in_effect(d, map.grppwm as usize);
-    let grpfreq = registers::in_effect(d, map.grpfreq as usize);
-    let blinking = registers::is_blinking(d.written[chip::MODE2 as usize]);
-    lamp::driver_mode(ledout, blinking, pwm, grppwm, grpfreq)
-}
-
-fn pca9531_mode(ls: u8, psc: u8, pwm: u8) -> BlinkerMode
-    ensures { result ≡ blinker_mode Chip.Pca9531 ls psc pwm }
-{
-    match ls {
-        0 => BlinkerMode::Off,
-        1 => BlinkerMode::On,
-        _ => BlinkerMode::LitBelow { psc: psc, pwm: pwm },
+impl Device {
+    fn ledout_of(self, out: u8) -> u8
+        ensures { result ≡ ledout_of self (outputs_of self.chip) out }
+    {
+        let map = self.chip.register_map();
+        let group = map.ledout0 as usize + out as usize / 4;
+        pair(self.in_effect(group), out)
     }
-}
 
-fn pca9551_mode(ls: u8, psc: u8, pwm: u8) -> BlinkerMode
-    ensures { result ≡ blinker_mode Chip.Pca9551 ls psc pwm }
-{
-    match ls {
-        0 => BlinkerMode::On,
-        1 => BlinkerMode::Off,
-        _ => BlinkerMode::LitFrom { psc: psc, pwm: pwm },
+    fn group_registers(self) -> GroupRegisters
+        ensures { result ≡ record { dmblnk = is_blinking self; grppwm = grppwm_of self; grpfreq = in_effect self (grpfreq (outputs_of self.chip)) } }
+    {
+        let map = self.chip.register_map();
+        GroupRegisters {
+            dmblnk: self.is_blinking(),
+            grppwm: self.in_effect(map.grppwm as usize),
+            grpfreq: self.in_effect(map.grpfreq as usize),
+        }
+    }
+
+    #[tactic(auto, unfolding(crate::specs::Output::driver_output))]
+    fn driver_output(self, out: u8) -> DriverMode
+        ensures { result ≡ driver_output self (outputs_of self.chip) out }
+    {
+        let pwm = self.in_effect(chip::PWM0 as usize + out as usize);
+        DriverMode::new(self.ledout_of(out), pwm, self.group_registers())
     }
 }
 
 fn blinker_mode(chip: Chip, ls: u8, psc: u8, pwm: u8) -> BlinkerMode
     ensures { result ≡ blinker_mode chip ls psc pwm }
 {
-    match chip {
-        Chip::Pca9635 => BlinkerMode::Off,
-        Chip::Pca9634 => BlinkerMode::Off,
-        Chip::Pca9531 => pca9531_mode(ls, psc, pwm),
-        Chip::Pca9551 => pca9551_mode(ls, psc, pwm),
+    match (chip, ls) {
+        (Chip::Pca9635 | Chip::Pca9634, _) => BlinkerMode::Off,
+        (Chip::Pca9531, 0) => BlinkerMode::Off,
+        (Chip::Pca9531, 1) => BlinkerMode::On,
+        (Chip::Pca9531, _) => BlinkerMode::LitBelow { psc, pwm },
+        (Chip::Pca9551, 0) => BlinkerMode::On,
+        (Chip::Pca9551, 1) => BlinkerMode::Off,
+        (Chip::Pca9551, _) => BlinkerMode::LitFrom { psc, pwm },
     }
 }
 
@@ -84,178 +71,156 @@ fn blink_of(ls: u8) -> u8
     if ls == 3 { 2 } else { 0 }
 }
 
-// An output's two LS bits.
-pub fn ls_of(d: Device, out: u8) -> u8
-    ensures value { result ≡ ls_of d out }
-    ensures upper_bound { result < 4 }
+fn input_weight(on: bool, weight: u16) -> u16
+    ensures { result ≡ cond on weight 0 }
 {
-    let written = d.written;
-    pair(
-        registers::at(written, chip::LS0 as usize + out as usize / 4),
-        out,
-    )
+    if on { weight } else { 0 }
 }
 
-// What an output with these LS bits follows.
-pub fn blinker_by(d: Device, ls: u8) -> BlinkerMode
-    ensures { result ≡ blinker_by d ls }
-{
-    let chip = d.chip;
-    let written = d.written;
-    let blink = blink_of(ls) as usize;
-    let psc = registers::at(written, chip::PSC0 as usize + blink);
-    let pwm = registers::at(written, chip::BLINK_PWM0 as usize + blink);
-    blinker_mode(chip, ls, psc, pwm)
-}
-
-#[tactic(auto, unfolding(crate::specs::Output::blinker_output))]
-fn blinker_output(d: Device, out: u8) -> BlinkerMode
-    ensures { result ≡ blinker_output d out }
-{
-    blinker_by(d, ls_of(d, out))
-}
-
-// The rules' "lit", at the present count.
-#[tactic(auto, unfolding(crate::specs::Output::lamp_lit))]
-pub fn is_lit(d: Device, out: u8) -> bool
-    ensures { result ≡ lit_now d out }
-{
-    let chip = d.chip;
-    if chip::is_driver(chip) {
-        lamp::driver_lit(driver_output(d, out), DriverTicks(d.count))
-    } else {
-        lamp::blinker_lit(blinker_output(d, out), BlinkerSteps(d.count))
+impl Device {
+    // An output's two LS bits.
+    pub fn ls_of(self, out: u8) -> u8
+        ensures value { result ≡ ls_of self out }
+        ensures upper_bound { result < 4 }
+    {
+        pair(self.held(chip::LS0 as usize + out as usize / 4), out)
     }
-}
 
-// The question "lit" of a driver, in its ticks: those lit among the next so many; asleep, all of them or none.
-#[tactic(auto, unfolding(crate::specs::Output::lamp_lit, crate::specs::Output::lit_of))]
-pub fn driver_lit(d: Device, out: u8, ticks: DriverTicks) -> DriverTicks
-    ensures { result.0 ≡ lit_for d out (Ticks ticks) }
-{
-    let chip = d.chip;
-    if chip::is_driver(chip) {
-        let mode = driver_output(d, out);
-        let at = DriverTicks(d.count);
-        if registers::is_awake(d) {
-            lamp::driver_lit_ticks(mode, at, ticks)
-        } else if lamp::driver_lit(mode, at) {
-            ticks
+    // What an output with these LS bits follows.
+    pub fn blinker_by(self, ls: u8) -> BlinkerMode
+        ensures { result ≡ blinker_by self ls }
+    {
+        let blink = blink_of(ls) as usize;
+        let psc = self.held(chip::PSC0 as usize + blink);
+        let pwm = self.held(chip::BLINK_PWM0 as usize + blink);
+        blinker_mode(self.chip, ls, psc, pwm)
+    }
+
+    #[tactic(auto, unfolding(crate::specs::Output::blinker_output))]
+    fn blinker_output(self, out: u8) -> BlinkerMode
+        ensures { result ≡ blinker_output self out }
+    {
+        self.blinker_by(self.ls_of(out))
+    }
+
+    // The rules' "lit", at the present count.
+    #[tactic(auto, unfolding(crate::specs::Output::lamp_lit))]
+    pub fn is_lit(self, out: u8) -> bool
+        ensures { result ≡ lit_now self out }
+    {
+        if self.chip.is_driver() {
+            self.driver_output(out).is_lit(DriverTicks(self.count))
         } else {
-            DriverTicks(0)
+            self.blinker_output(out).is_lit(BlinkerSteps(self.count))
         }
-    } else {
-        DriverTicks(0)
     }
-}
 
-// The same of a blinker, in its steps.
-#[tactic(auto, unfolding(crate::specs::Output::lamp_lit, crate::specs::Output::lit_of, crate::specs::Registers::is_awake))]
-pub fn blinker_lit(d: Device, out: u8, steps: BlinkerSteps) -> BlinkerSteps
-    ensures { result.0 ≡ lit_for d out (Steps steps) }
-{
-    let chip = d.chip;
-    if chip::is_driver(chip) {
-        BlinkerSteps(0)
-    } else {
-        lamp::blinker_lit_steps(blinker_output(d, out), BlinkerSteps(d.count), steps)
+    // The question "lit", of an output that follows a mode: how long it is lit of the next so long; asleep, all of it or none.
+    fn lit_by<M: Mode>(self, mode: M, wait: M::Unit) -> M::Unit
+        ensures { M.Unit.count result ≡ cond (is_own self.chip (M.Unit.duration wait)) (cond (is_awake self) (counted_ticks (M.lit mode) self.count (M.Unit.count wait)) (cond (M.lit mode self.count) (M.Unit.count wait) 0)) 0 }
+    {
+        let at = M::Unit::of(self.count);
+        if !crate::wait::is_own(self.chip, wait.duration()) {
+            M::Unit::of(0)
+        } else if self.is_awake() {
+            mode.lit_for(at, wait)
+        } else if mode.is_lit(at) {
+            wait
+        } else {
+            M::Unit::of(0)
+        }
     }
-}
 
-// What all outputs of a driver share over a wait.
-pub fn driver_shared(d: Device, ticks: DriverTicks) -> Shared
-    ensures value { result ≡ driver_shared d ticks.0 }
-    ensures d_bound { grppwm_of d < 256 }
-{
-    let chip = d.chip;
-    let map = chip::register_map(chip);
-    let grppwm = registers::in_effect(d, map.grppwm as usize);
-    let grpfreq = registers::in_effect(d, map.grpfreq as usize);
-    let blinking = registers::is_blinking(d.written[chip::MODE2 as usize]);
-    let awake = registers::is_awake(d);
-    lamp::driver_shared(
-        awake,
-        blinking,
-        grppwm,
-        grpfreq,
-        DriverTicks(d.count),
-        ticks,
-    )
-}
-
-fn undriven(d: Device) -> u64
-    ensures { result ≡ undriven d }
-{
-    if registers::is_totem_pole(d.written[chip::MODE2 as usize]) {
-        HIGH
-    } else {
-        HIGH_Z
+    // Of a driver, in its ticks.
+    #[tactic(auto, unfolding(crate::specs::Output::lamp_lit, crate::specs::Output::lit_of))]
+    pub fn driver_lit(self, out: u8, ticks: DriverTicks) -> DriverTicks
+        ensures { result.0 ≡ lit_for self out (Ticks ticks) }
+    {
+        self.lit_by(self.driver_output(out), ticks)
     }
-}
 
-fn disabled_pin(d: Device) -> u64
-    ensures { result ≡ disabled_pin d }
-{
-    let outne = registers::outne(d.written[chip::MODE2 as usize]);
-    if outne == 0 {
-        LOW
-    } else if outne == 1 {
-        undriven(d)
-    } else {
-        HIGH_Z
+    // Of a blinker, in its steps.
+    #[tactic(auto, unfolding(crate::specs::Output::lamp_lit, crate::specs::Output::lit_of))]
+    pub fn blinker_lit(self, out: u8, steps: BlinkerSteps) -> BlinkerSteps
+        ensures { result.0 ≡ lit_for self out (Steps steps) }
+    {
+        self.lit_by(self.blinker_output(out), steps)
     }
-}
 
-fn driver_pin(d: Device, lit: bool) -> u64
-    ensures { result ≡ driver_pin d lit }
-{
-    if d.oe {
-        disabled_pin(d)
-    } else if registers::is_inverted(d.written[chip::MODE2 as usize]) {
-        if lit { undriven(d) } else { LOW }
-    } else {
-        if lit { LOW } else { undriven(d) }
+    // What all outputs of a driver share over a wait.
+    pub fn driver_shared(self, ticks: DriverTicks) -> Shared
+        ensures value { result ≡ driver_shared self ticks.0 }
+        ensures d_bound { grppwm_of self < 256 }
+    {
+        self.group_registers()
+            .shared(self.is_awake(), DriverTicks(self.count), ticks)
     }
-}
 
-#[tactic(auto, unfolding(crate::specs::Output::pin_of))]
-pub fn pin(d: Device, out: u8) -> u64
-    ensures { result ≡ pin_of d out }
-{
-    let chip = d.chip;
-    if chip::is_driver(chip) {
-        driver_pin(d, is_lit(d, out))
-    } else if is_lit(d, out) {
-        LOW
-    } else {
-        HIGH_Z
+    // What a driver's pin does when it is not pulled low.
+    fn undriven(self) -> Level
+        ensures { level_number result ≡ undriven self }
+    {
+        if self.is_totem_pole() {
+            Level::High
+        } else {
+            Level::HighZ
+        }
     }
-}
 
-fn input_weight(d: Device, i: u8, weight: u16) -> u16
-    ensures { result ≡ cond (input_bit d i) weight 0 }
-{
-    if is_lit(d, i) {
-        0
-    } else if registers::bit(i, d.levels) {
-        weight
-    } else {
-        0
+    fn disabled_pin(self) -> Level
+        ensures { level_number result ≡ disabled_pin self }
+    {
+        match self.outne() {
+            0 => Level::Low,
+            1 => self.undriven(),
+            _ => Level::HighZ,
+        }
     }
-}
 
-// INPUT of a blinker.
-#[tactic(auto, unfolding(crate::specs::Output::input_byte))]
-pub fn input_byte(d: Device) -> u8
-    ensures { result ≡ input_byte d }
-{
-    let mut byte: u16 = 0;
-    let mut weight: u16 = 1;
-    let mut i: u8 = 0;
-    while i < 8 {
-        byte += input_weight(d, i, weight);
-        weight += weight;
-        i += 1;
+    fn driver_pin(self, lit: bool) -> Level
+        ensures { level_number result ≡ driver_pin self lit }
+    {
+        if self.oe {
+            self.disabled_pin()
+        } else if lit != self.is_inverted() {
+            Level::Low
+        } else {
+            self.undriven()
+        }
     }
-    byte as u8
+
+    #[tactic(auto, unfolding(crate::specs::Output::pin_of))]
+    pub fn pin(self, out: u8) -> Level
+        ensures { level_number result ≡ pin_of self out }
+    {
+        if self.chip.is_driver() {
+            self.driver_pin(self.is_lit(out))
+        } else if self.is_lit(out) {
+            Level::Low
+        } else {
+            Level::HighZ
+        }
+    }
+
+    // Bit i of INPUT: 0 where the output is lit, else the outside level.
+    fn input_bit(self, i: u8) -> bool
+        ensures { result ≡ input_bit self i }
+    {
+        !self.is_lit(i) && registers::bit(i, self.levels)
+    }
+
+    // INPUT of a blinker.
+    #[tactic(auto, unfolding(crate::specs::Output::input_byte))]
+    pub fn input_byte(self) -> u8
+        ensures { result ≡ input_byte self }
+    {
+        let mut byte: u16 = 0;
+        let mut weight: u16 = 1;
+        // by the number of an output, since the sum keeps the form that its laws have: `fold` (tried) proves less
+        for i in 0..8 {
+            byte += input_weight(self.input_bit(i), weight);
+            weight += weight;
+        }
+        byte as u8
+    }
 }

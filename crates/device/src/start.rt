@@ -5,9 +5,11 @@ ghost use Rattle.device.specs.Start.{common_start_of};
 use crate::Device;
 use lamp::BlinkerSteps;
 
-pub fn common_start(d: Device) -> BlinkerSteps
-    ensures { result.0 ≡ common_start_of d }
-{
-    let psc0 = chip::PSC0 as usize;
-    blink::common_start(d.written[psc0], d.written[psc0 + 2])
+impl Device {
+    pub fn common_start(self) -> BlinkerSteps
+        ensures { result.0 ≡ common_start_of self }
+    {
+        let psc0 = chip::PSC0 as usize;
+        blink::common_start(self.written[psc0], self.written[psc0 + 2])
+    }
 }

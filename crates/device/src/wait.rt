@@ -1,17 +1,17 @@
 // Time: each kind of device counts in its own unit, and a wait in the other's moves nothing.
 ghost use Rattle.std.specs.Prelude.{◌≡◌};
-ghost use Rattle.lamp.specs.declared.Duration.TheVariants.{Ticks, Steps};
 ghost use Rattle.device.specs.Wait.{advanced, is_own, own_duration, overruns_for, is_too_long_for, after_wait_for};
 
 use crate::Device;
 use chip::Chip;
-use lamp::{BlinkerSteps, DriverTicks, Duration};
+use lamp::proved_callers::sum;
+use lamp::{BlinkerSteps, DriverTicks, Duration, Unit};
 
 // A bare number of ticks, as the events have it, in the unit of the chip's kind.
 pub fn own_duration(chip: Chip, n: u64) -> Duration
     ensures { result ≡ own_duration chip n }
 {
-    if chip::is_driver(chip) {
+    if chip.is_driver() {
         Duration::Ticks(DriverTicks(n))
     } else {
         Duration::Steps(BlinkerSteps(n))
@@ -22,113 +22,64 @@ pub fn is_own(chip: Chip, duration: Duration) -> bool
     ensures { result ≡ is_own chip duration }
 {
     match duration {
-        Duration::Ticks(_) => chip::is_driver(chip),
-        Duration::Steps(_) => !chip::is_driver(chip),
+        Duration::Ticks(_) => chip.is_driver(),
+        Duration::Steps(_) => !chip.is_driver(),
     }
 }
 
-// Whether an awake driver's count would pass the limit.
-#[tactic(auto, unfolding(crate::specs::Wait::overruns))]
-pub fn driver_overruns(d: Device, ticks: DriverTicks) -> bool
-    ensures { result ≡ overruns_for d (Ticks ticks) }
-{
-    let chip = d.chip;
-    if chip::is_driver(chip) {
-        if crate::registers::is_awake(d) {
-            !lamp::driver_within(DriverTicks(d.count), ticks)
-        } else {
-            false
+impl Device {
+    // Whether an awake device's count would pass the limit. One in the other unit passes none.
+    #[tactic(auto, unfolding(crate::specs::Wait::overruns))]
+    pub fn overruns_by<U: Unit>(self, wait: U) -> bool
+        ensures { result ≡ overruns_for self (U.duration wait) }
+    {
+        is_own(self.chip, wait.duration())
+            && self.is_awake()
+            && !U::of(self.count).has_room_for(wait)
+    }
+
+    pub fn overruns(self, duration: Duration) -> bool
+        ensures { result ≡ overruns_for self duration }
+    {
+        match duration {
+            Duration::Ticks(ticks) => self.overruns_by(ticks),
+            Duration::Steps(steps) => self.overruns_by(steps),
         }
-    } else {
-        false
     }
-}
 
-// Whether a blinker's count would pass the limit.
-#[tactic(auto, unfolding(crate::specs::Wait::overruns, crate::specs::Registers::is_awake))]
-pub fn blinker_overruns(d: Device, steps: BlinkerSteps) -> bool
-    ensures { result ≡ overruns_for d (Steps steps) }
-{
-    let chip = d.chip;
-    if chip::is_driver(chip) {
-        false
-    } else {
-        !lamp::blinker_within(BlinkerSteps(d.count), steps)
-    }
-}
-
-pub fn overruns(d: Device, duration: Duration) -> bool
-    ensures { result ≡ overruns_for d duration }
-{
-    match duration {
-        Duration::Ticks(ticks) => driver_overruns(d, ticks),
-        Duration::Steps(steps) => blinker_overruns(d, steps),
-    }
-}
-
-// The same, or longer than the limit by itself.
-pub fn is_too_long(d: Device, duration: Duration) -> bool
-    ensures { result ≡ is_too_long_for d duration }
-{
-    if lamp::is_above_limit(duration) {
-        true
-    } else {
-        overruns(d, duration)
+    // The same, or longer than the limit by itself.
+    pub fn is_too_long(self, duration: Duration) -> bool
+        ensures { result ≡ is_too_long_for self duration }
+    {
+        duration.is_above_limit() || self.overruns(duration)
     }
 }
 
 // The count after a wait. Past the limit it stays, which no call lets happen.
-fn driver_advanced(at: DriverTicks, ticks: DriverTicks) -> DriverTicks
-    ensures { result.0 ≡ advanced at.0 ticks.0 }
+#[tactic(auto, using(crate::proofs::laws::Wait::within_advanced, crate::proofs::laws::Wait::beyond_stays, lamp::proofs::laws::Count::within_fits))]
+fn advanced<U: Unit>(at: U, more: U) -> U
+    ensures { U.count result ≡ advanced (U.count at) (U.count more) }
 {
-    if lamp::driver_within(at, ticks) {
-        DriverTicks(at.0 + ticks.0)
+    if at.has_room_for(more) {
+        sum(at, more)
     } else {
         at
     }
 }
 
-fn blinker_advanced(at: BlinkerSteps, steps: BlinkerSteps) -> BlinkerSteps
-    ensures { result.0 ≡ advanced at.0 steps.0 }
-{
-    if lamp::blinker_within(at, steps) {
-        BlinkerSteps(at.0 + steps.0)
-    } else {
-        at
-    }
-}
-
-// Asleep a driver's count stands still.
-#[tactic(auto, unfolding(crate::specs::Wait::after_wait))]
-pub fn driver_after_wait(d: Device, ticks: DriverTicks) -> Device
-    ensures { result ≡ after_wait_for d (Ticks ticks) }
-{
-    let chip = d.chip;
-    let mut next = d;
-    if chip::is_driver(chip) {
-        if crate::registers::is_awake(d) {
-            let at = driver_advanced(DriverTicks(d.count), ticks);
-            next.count = at.0;
-            next
+impl Device {
+    // Asleep a driver's count stands still.
+    #[tactic(auto, unfolding(crate::specs::Wait::after_wait))]
+    pub fn after_wait<U: Unit>(self, wait: U) -> Device
+        ensures { result ≡ after_wait_for self (U.duration wait) }
+    {
+        if is_own(self.chip, wait.duration()) && self.is_awake() {
+            Device {
+                count: advanced(U::of(self.count), wait).count(),
+                ..self
+            }
         } else {
-            d
+            self
         }
-    } else {
-        d
-    }
-}
-
-#[tactic(auto, unfolding(crate::specs::Wait::after_wait, crate::specs::Registers::is_awake))]
-pub fn blinker_after_wait(d: Device, steps: BlinkerSteps) -> Device
-    ensures { result ≡ after_wait_for d (Steps steps) }
-{
-    let chip = d.chip;
-    let mut next = d;
-    if chip::is_driver(chip) {
-        d
-    } else {
-        let at = blinker_advanced(BlinkerSteps(d.count), steps);
-        next.count = at.0;
-        next
     }
 }

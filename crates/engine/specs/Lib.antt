@@ -1,4 +1,3 @@
-pub mod Tabulate
 pub mod Lens
 pub mod Signals
 pub mod laws

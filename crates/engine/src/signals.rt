@@ -1,142 +1,169 @@
 // A signal on the lent devices. A device that it leaves as it is is not touched.
-ghost use Rattle.std.specs.Prelude.{◌≡◌, cond, false, ◌≤◌, ◌<◌, length};
+ghost use Rattle.std.specs.Prelude.{◌≡◌, ◌≤◌, length};
 ghost use Rattle.basics.specs.Bits.{mask_first};
-ghost use Rattle.basics.specs.First.{map_first, and_first};
+ghost use Rattle.basics.specs.First.{and_first};
 ghost use Rattle.device.specs.Fields.{with_stage};
 ghost use Rattle.protocol.specs.Signals.{after_signal};
-ghost use Rattle.protocol.specs.Put.{after_put, acks_to};
+ghost use Rattle.protocol.specs.Put.{is_selected, after_put, acks_to};
 ghost use Rattle.protocol.specs.Read.{talk_of, after_get};
 ghost use Rattle.protocol.specs.Stop.{after_stop};
-ghost use Rattle.engine.specs.Lens.{device_of, devices_of};
+ghost use Rattle.bus.specs.Devices.{bus_after};
+ghost use Rattle.engine.specs.Lens.{device_of, lent_device, IsSameDevice, lent_bus, IsSameLoan};
 ghost use Rattle.engine.specs.Signals.{acks_at, talks_at};
 ghost use Rattle.device.specs.declared.Phase.TheVariants as P;
 
-use crate::lens::{chip_of, load, stage_byte, store};
+use crate::lens::{load, part, stage_byte, stage_of, store};
+use crate::{Lent, LentDevice};
+use chip::Chip;
 use device::{Device, Phase, Stage};
 use protocol::Signal;
 
-// What a device answers a signal with: whether it acknowledges, the byte that it talks, 255 where it does not, and its count afterwards.
+// What a device answers a signal with: whether it acknowledges, and the byte that it talks, 255 where it does not.
 #[derive(Clone, Copy)]
 pub struct Response {
     pub acks: bool,
     pub talk: u8,
-    pub count: u64,
 }
 
-// The device with another stage.
-fn put_stage(stage: Stage, part: &mut [u8], count: u64)
-    requires { length part.old ≡ 64 }
-    ensures { device_of part.new count ≡ with_stage (device_of part.old count) stage }
-{
-    part[1] = stage_byte(stage);
-}
+// Most signals get none.
+const SILENCE: Response = Response {
+    acks: false,
+    talk: 255,
+};
 
-#[tactic(auto, unfolding(protocol::specs::Put::after_put, protocol::specs::Put::acks_to))]
-fn address_one(byte: u8, part: &mut [u8], count: u64) -> bool
-    requires { length part.old ≡ 64 }
-    ensures count_after { device_of part.new count ≡ after_put P.Address byte (device_of part.old count) }
-    ensures value { result ≡ acks_to P.Address byte (device_of part.old count) }
-{
-    let d = load(&part[..], count);
-    let stage = protocol::selection::stage_after_address(d, byte);
-    put_stage(stage, part, count);
-    protocol::put::is_selected(stage)
-}
-
-// One that is not selected takes no byte of a write.
-#[tactic(auto, unfolding(protocol::specs::Put::after_put, protocol::specs::Put::acks_to))]
-fn byte_one(byte: u8, part: &mut [u8], count: u64) -> Response
-    requires { length part.old ≡ 64 }
-    ensures count_after { device_of part.new result.count ≡ after_put P.Write byte (device_of part.old count) }
-    ensures acks_value { (result.acks ≡ acks_to P.Write byte (device_of part.old count)) × (result.talk ≡ 255) }
-{
-    if part[1] == 0 {
-        response_of(false, 255, count)
-    } else {
-        let d = load(&part[..], count);
-        let acks = protocol::write::acks(byte, d);
-        let next = protocol::write::after_byte(byte, d);
-        store(next, part);
-        response_of(acks, 255, next.count)
+impl LentDevice<'_> {
+    fn load(&self) -> Device
+        ensures { result ≡ lent_device self.now }
+    {
+        load(self.bytes, *self.count)
     }
-}
 
-fn response_of(acks: bool, talk: u8, count: u64) -> Response
-    ensures { result ≡ record { acks = acks; talk = talk; count = count } }
-{
-    Response { acks, talk, count }
-}
-
-#[tactic(auto, unfolding(protocol::specs::Put::after_put, protocol::specs::Put::acks_to))]
-fn put_one(phase: Phase, byte: u8, part: &mut [u8], count: u64) -> Response
-    requires { length part.old ≡ 64 }
-    ensures count_after { device_of part.new result.count ≡ after_put phase byte (device_of part.old count) }
-    ensures acks_value { (result.acks ≡ acks_to phase byte (device_of part.old count)) × (result.talk ≡ 255) }
-{
-    match phase {
-        Phase::Idle => response_of(false, 255, count),
-        Phase::Address => response_of(address_one(byte, part, count), 255, count),
-        Phase::Write => byte_one(byte, part, count),
-        Phase::Read => response_of(false, 255, count),
-        Phase::Ended => response_of(false, 255, count),
+    fn store(&mut self, d: Device)
+        ensures loan { IsSameDevice self.old self.new }
+        ensures device { lent_device self.new ≡ d }
+    {
+        store(d, self.bytes);
+        *self.count = d.count;
     }
-}
 
-// One that does not talk is left, but for its stage.
-fn get_one(ack: bool, part: &mut [u8], count: u64) -> Response
-    requires { length part.old ≡ 64 }
-    ensures count_after { device_of part.new result.count ≡ after_get ack (device_of part.old count) }
-    ensures talk_value { (result.talk ≡ talk_of (device_of part.old count)) × (result.acks ≡ false) }
-{
-    if part[1] == 0 {
-        response_of(false, 255, count)
-    } else {
-        let d = load(&part[..], count);
-        let talk = protocol::read::talk(d);
-        let next = protocol::read::after_get(ack, d);
-        store(next, part);
-        response_of(false, talk, next.count)
+    // The stage alone.
+    #[tactic(auto, using(crate::specs::laws::Signals::stage_put, crate::specs::laws::Lens::stage_back))]
+    fn set_stage(&mut self, stage: Stage)
+        ensures loan { IsSameDevice self.old self.new }
+        ensures device { lent_device self.new ≡ with_stage (lent_device self.old) stage }
+    {
+        self.bytes[1] = stage_byte(stage);
     }
-}
 
-// A blinker only forgets its stage.
-fn stop_one(part: &mut [u8], count: u64) -> u64
-    requires { length part.old ≡ 64 }
-    ensures { device_of part.new result ≡ after_stop (device_of part.old count) }
-{
-    let chip = chip_of(part[0]);
-    if chip::is_driver(chip) {
-        let next = protocol::stop::after_stop(load(&part[..], count));
-        store(next, part);
-        next.count
-    } else {
-        put_stage(Stage::Unselected, part, count);
-        count
+    // One that is not takes no byte of a write and talks none.
+    #[tactic(auto, unfolding(crate::specs::Lens::device_of))]
+    fn is_selected(&self) -> bool
+        ensures { result ≡ is_selected (lent_device self.now).stage }
+    {
+        protocol::put::is_selected(stage_of(self.bytes[1]))
     }
-}
 
-#[tactic(auto, unfolding(protocol::specs::Signals::after_signal, crate::specs::Signals::acks_at, crate::specs::Signals::talks_at))]
-pub fn signal_one(phase: Phase, signal: Signal, part: &mut [u8], count: u64) -> Response
-    requires { length part.old ≡ 64 }
-    ensures count_after { device_of part.new result.count ≡ after_signal phase signal (device_of part.old count) }
-    ensures acks_value { result.acks ≡ acks_at phase signal (device_of part.old count) }
-    ensures talk_value { result.talk ≡ talks_at signal (device_of part.old count) }
-{
-    match signal {
-        Signal::Start => {
-            put_stage(Stage::Unselected, part, count);
-            response_of(false, 255, count)
+    #[tactic(auto, unfolding(protocol::specs::Put::after_put, protocol::specs::Put::acks_to))]
+    fn put_address(&mut self, byte: u8) -> bool
+        ensures loan { IsSameDevice self.old self.new }
+        ensures device { lent_device self.new ≡ after_put P.Address byte (lent_device self.old) }
+        ensures acks { result ≡ acks_to P.Address byte (lent_device self.old) }
+    {
+        let stage = protocol::selection::stage_after_address(self.load(), byte);
+        self.set_stage(stage);
+        protocol::put::is_selected(stage)
+    }
+
+    #[tactic(auto, using(crate::specs::laws::Signals::skip_byte, crate::specs::laws::Signals::skip_acks), unfolding(protocol::specs::Put::after_put, protocol::specs::Put::acks_to))]
+    fn put_byte(&mut self, byte: u8) -> bool
+        ensures loan { IsSameDevice self.old self.new }
+        ensures device { lent_device self.new ≡ after_put P.Write byte (lent_device self.old) }
+        ensures acks { result ≡ acks_to P.Write byte (lent_device self.old) }
+    {
+        if !self.is_selected() {
+            return false;
         }
-        Signal::Stop => response_of(false, 255, stop_one(part, count)),
-        Signal::Put(byte) => put_one(phase, byte, part, count),
-        Signal::Get(ack) => get_one(ack, part, count),
+        let d = self.load();
+        self.store(protocol::write::after_byte(byte, d));
+        protocol::write::acks(byte, d)
+    }
+
+    #[tactic(auto, unfolding(protocol::specs::Put::after_put, protocol::specs::Put::acks_to))]
+    fn put(&mut self, phase: Phase, byte: u8) -> bool
+        ensures loan { IsSameDevice self.old self.new }
+        ensures device { lent_device self.new ≡ after_put phase byte (lent_device self.old) }
+        ensures acks { result ≡ acks_to phase byte (lent_device self.old) }
+    {
+        match phase {
+            Phase::Address => self.put_address(byte),
+            Phase::Write => self.put_byte(byte),
+            Phase::Idle | Phase::Read | Phase::Ended => false,
+        }
+    }
+
+    #[tactic(auto, using(crate::specs::laws::Signals::skip_get, crate::specs::laws::Signals::skip_talk))]
+    fn get(&mut self, ack: bool) -> u8
+        ensures loan { IsSameDevice self.old self.new }
+        ensures device { lent_device self.new ≡ after_get ack (lent_device self.old) }
+        ensures talk { result ≡ talk_of (lent_device self.old) }
+    {
+        if !self.is_selected() {
+            return 255;
+        }
+        let d = self.load();
+        self.store(protocol::read::after_get(ack, d));
+        protocol::read::talk(d)
+    }
+
+    // A blinker only forgets its stage.
+    #[tactic(auto, using(crate::specs::laws::Signals::blinker_stop, crate::specs::laws::Lens::chip_there))]
+    fn stop(&mut self)
+        ensures loan { IsSameDevice self.old self.new }
+        ensures device { lent_device self.new ≡ after_stop (lent_device self.old) }
+    {
+        if Chip::of_kind(self.bytes[0]).is_driver() {
+            self.store(protocol::stop::after_stop(self.load()));
+        } else {
+            self.set_stage(Stage::Unselected);
+        }
+    }
+
+    #[tactic(auto, unfolding(protocol::specs::Signals::after_signal, crate::specs::Signals::acks_at, crate::specs::Signals::talks_at))]
+    fn signal(&mut self, phase: Phase, signal: Signal) -> Response
+        ensures loan { IsSameDevice self.old self.new }
+        ensures device { lent_device self.new ≡ after_signal phase signal (lent_device self.old) }
+        ensures acks { result.acks ≡ acks_at phase signal (lent_device self.old) }
+        ensures talk { result.talk ≡ talks_at signal (lent_device self.old) }
+    {
+        match signal {
+            Signal::Start => {
+                self.set_stage(Stage::Unselected);
+                SILENCE
+            }
+            Signal::Stop => {
+                self.stop();
+                SILENCE
+            }
+            Signal::Put(byte) => Response {
+                acks: self.put(phase, byte),
+                ..SILENCE
+            },
+            Signal::Get(ack) => Response {
+                talk: self.get(ack),
+                ..SILENCE
+            },
+        }
     }
 }
 
-fn weight_of(on: bool, weight: u64) -> u64
-    ensures { result ≡ cond on weight 0 }
+// The loop below calls this: where it makes the `LentDevice` itself, the check loses the length of the counts.
+pub fn signal_one(phase: Phase, signal: Signal, bytes: &mut [u8], count: &mut u64) -> Response
+    requires { length bytes.old ≡ 64 }
+    ensures device { device_of bytes.new count.new ≡ after_signal phase signal (device_of bytes.old count.old) }
+    ensures acks { result.acks ≡ acks_at phase signal (device_of bytes.old count.old) }
+    ensures talk { result.talk ≡ talks_at signal (device_of bytes.old count.old) }
 {
-    if on { weight } else { 0 }
+    LentDevice { bytes, count }.signal(phase, signal)
 }
 
 // What all devices answer: the set of those that acknowledge, and the AND of all that talk.
@@ -146,30 +173,26 @@ pub struct Responses {
     pub byte: u8,
 }
 
-// The signal at each of the first n devices.
-pub fn signal_all(
-    n: usize,
-    phase: Phase,
-    signal: Signal,
-    bytes: &mut [u8],
-    counts: &mut [u64],
-) -> Responses
-    requires { (n ≤ 8) × (length bytes.old ≡ 512) × (length counts.old ≡ 8) }
-    ensures counts_after { devices_of bytes.new counts.new ≡ map_first n (after_signal phase signal) (devices_of bytes.old counts.old) }
-    ensures acks_value { result.acks ≡ mask_first n (acks_at phase signal) (devices_of bytes.old counts.old) }
-    ensures byte_value { result.byte ≡ and_first n (talks_at signal) (devices_of bytes.old counts.old) }
-{
-    let mut acks: u64 = 0;
-    let mut weight: u64 = 1;
-    let mut byte: u8 = 255;
-    for i in 0..n {
-        let a = 64 * i;
-        let e = a + 64;
-        let response = signal_one(phase, signal, &mut bytes[a..e], counts[i]);
-        counts[i] = response.count;
-        byte = byte & response.talk;
-        acks += weight_of(response.acks, weight);
-        weight += weight;
+impl Lent<'_> {
+    // The signal at each device, by its position: of a slice that `chunks_exact_mut` has lent nothing is known but its length.
+    pub(crate) fn signal(&mut self, signal: Signal) -> Responses
+        requires { self.old.count ≤ 8 }
+        ensures loan { IsSameLoan self.old self.new }
+        ensures bus { lent_bus self.new ≡ bus_after signal (lent_bus self.old) }
+        ensures acks { result.acks ≡ mask_first self.old.count (acks_at self.old.phase signal) (lent_bus self.old).devices }
+        ensures byte { result.byte ≡ and_first self.old.count (talks_at signal) (lent_bus self.old).devices }
+    {
+        let phase = self.phase;
+        let bytes = &mut *self.bytes;
+        let counts = &mut *self.counts;
+        let mut acks = 0;
+        let mut byte = 255;
+        for i in 0..self.count as usize {
+            let response = signal_one(phase, signal, &mut bytes[part::<64>(i)], &mut counts[i]);
+            acks |= u64::from(response.acks) << i;
+            byte &= response.talk;
+        }
+        self.phase = protocol::signals::phase_after_signal(phase, signal);
+        Responses { acks, byte }
     }
-    Responses { acks, byte }
 }

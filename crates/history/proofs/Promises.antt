@@ -1,17 +1,13 @@
 -- Promises on the totals, for any well-formed bus and any sequence of events: each of an output's two is the one before and the sum, wait by wait, of what a lit question just before the wait
 -- answers, or of the rest of the wait; from 0 on for a device that is added; the same for a recording. No other event changes a total, and totals change no answer but a wait's 6.
-use Rattle.std.specs.Prelude.{◌≡◌, true, false, ℕ, ◌+◌, ◌≤◌, ◌<◌, leb, eqb, set}
-use Rattle.std.proofs.Math.Path.{refl, ap}
-use Rattle.std.proofs.Common.{sym, ◌∙◌, true≢false, leb-true, leb-false, eqb-true, ne_eqb}
-use mathlib.Core.List.{List, [], ◌∷◌}
-use native.Mathlib.Omega.{arith}
-use Rattle.std.proofs.lemmas.Bool.{not-false, eqb-false}
-use Rattle.basics.specs.laws.Logic.{holds, fails, tested, neither}
+use Rattle.std.specs.Prelude.{Option, Some, None, ◌≡◌, true, false, ℕ, ◌+◌, ◌≤◌, ◌<◌, leb, set, refl, List, [], ◌∷◌}
+use Rattle.std.proofs.Common.{ap, sym, ◌∙◌, true≢false, leb-true, leb-false, ne_eqb, arith}
+use Rattle.std.proofs.lemmas.Bool.{not-false}
+use Rattle.basics.specs.laws.Logic.{neither}
 use Rattle.basics.specs.laws.Parts.{part_same}
 use Rattle.basics.specs.laws.Below.{below_at}
+use Rattle.chip.specs.declared.Chip.{Chip}
 use Rattle.chip.specs.Kinds.{chip_numbered, is_unknown, outputs_of}
-use Rattle.chip.specs.declared.Lookup.{Lookup}
-use Rattle.chip.specs.declared.Lookup.TheVariants.{Known, Unknown}
 use Rattle.device.specs.Wait.{is_too_long}
 use Rattle.totals.specs.Wait.{exceeds}
 use Rattle.totals.specs.Totals.{total_limit, zeros, totals_within}
@@ -33,15 +29,13 @@ use Rattle.bus.specs.declared.Change.{Change}
 use Rattle.bus.specs.declared.Change.TheVariants as C
 use Rattle.bus.specs.declared.Bus.{Bus}
 use Rattle.bus.specs.declared.Event.{Event}
-use Rattle.replay.specs.Time.{since, after_time}
-use Rattle.replay.specs.Replay.{replayed, replay_bus}
+use Rattle.replay.specs.Time.{Clock, since, after_time}
+use Rattle.replay.specs.Replay.{stamped, replayed, replay_bus}
 use Rattle.replay.specs.ByHand.{all_by_hand, flat}
 use Rattle.replay.proofs.Promises.{replay_event, replay_bus_lem, replay_on, replay_shape, recording_by_hand}
 use Rattle.replay.proofs.laws.Alike.{time_count}
-use Rattle.replay.specs.declared.Clock.{Clock}
-use Rattle.replay.specs.declared.Clock.TheVariants.{At}
+use Rattle.replay.proofs.laws.Timed.{step_by}
 use Rattle.replay.specs.declared.Entry.{Entry}
-use Rattle.replay.specs.declared.Entry.TheVariants.{Stamped}
 use Rattle.history.specs.History.{lit_total, unlit_total, wait_share, wait_sum, lit_sum, rest_sum, is_waiting, is_wait, is_wait_at, with_totals}
 use Rattle.history.proofs.laws.Step.{lit_answer, lit_few_answered, step_adds, step_same}
 
@@ -92,9 +86,9 @@ totals_within_lem b dev out h there k =
 -- ---- a device that is added
 
 -- its totals are 0, whatever stood there
-zero_at : (b : Bus) (found : Lookup) (address out : ℕ) → is_unknown found ≡ false → b.count < 8 → (lit_total (added_to b found address) b.count out ≡ 0) × (unlit_total (added_to b found address) b.count out ≡ 0)
-zero_at b Unknown address out u h = absurd (true≢false u)
-zero_at b (Known chip) address out u h =
+zero_at : (b : Bus) (found : Option Chip) (address out : ℕ) → is_unknown found ≡ false → b.count < 8 → (lit_total (added_to b found address) b.count out ≡ 0) × (unlit_total (added_to b found address) b.count out ≡ 0)
+zero_at b None address out u h = absurd (true≢false u)
+zero_at b (Some chip) address out u h =
     (rw (part_same 8 16 b.count zeros b.lit h refl) (nought out), rw (part_same 8 16 b.count zeros b.unlit h refl) (nought out))
 
 pub added_zero : (b : Bus) (chip addr out : ℕ) → (step_reply b (E.Add chip addr)).code ≡ 0 → (lit_total (step_reply b (E.Add chip addr)).bus b.count out ≡ 0) × (unlit_total (step_reply b (E.Add chip addr)).bus b.count out ≡ 0)
@@ -120,7 +114,7 @@ added_history b chip addr out l h z k =
 
 -- ---- a recording, its time included: its waits and events by hand
 
-module _ (b : Bus) (clock : Clock) (l : List Entry) (dev out : ℕ) (h : bus_ok b ≡ true) (there : has_device b dev ≡ true) (k : out < outputs_of (device_at b dev).chip) where
+module _ (b : Bus) (clock : Clock) (l : List (Option Entry)) (dev out : ℕ) (h : bus_ok b ≡ true) (there : has_device b dev ≡ true) (k : out < outputs_of (device_at b dev).chip) where
   abbrev hand : List Event
   hand = flat (all_by_hand b clock l)
 
@@ -136,12 +130,12 @@ module _ (b : Bus) (clock : Clock) (l : List Entry) (dev out : ℕ) (h : bus_ok 
   )
 
 -- a device that an entry adds: from 0 on, by the waits and events of the entries behind it
-module _ (b : Bus) (clock : Clock) (at chip addr out : ℕ) (l : List Entry) (h : bus_ok b ≡ true) (z : (replayed b clock (Stamped at (E.Add chip addr))).reply.code ≡ 0) where
+module _ (b : Bus) (clock : Clock) (at chip addr out : ℕ) (l : List (Option Entry)) (h : bus_ok b ≡ true) (z : (replayed b clock (stamped at (E.Add chip addr))).reply.code ≡ 0) where
   abbrev passed : Bus
   passed = after_time (since clock at) b
 
   abbrev pub grown : Bus
-  grown = (replayed b clock (Stamped at (E.Add chip addr))).reply.bus
+  grown = (replayed b clock (stamped at (E.Add chip addr))).reply.bus
 
   taken : (step_reply passed (E.Add chip addr)).code ≡ 0
   taken = replay_event b clock at (E.Add chip addr) z
@@ -156,12 +150,12 @@ module _ (b : Bus) (clock : Clock) (at chip addr out : ℕ) (l : List Entry) (h 
   grown_there = rw (grown_is, time_count (since clock at) b) at (added_there passed chip addr taken)
 
   pub recording_added : out < outputs_of (device_at grown b.count).chip
-      → (lit_total (replay_bus b clock (Stamped at (E.Add chip addr) ∷ l)) b.count out ≡ lit_sum b.count out grown (flat (all_by_hand grown (At at) l)))
-      × ((unlit_total (replay_bus b clock (Stamped at (E.Add chip addr) ∷ l)) b.count out ≡ rest_sum b.count out grown (flat (all_by_hand grown (At at) l)))
-      × (lit_total (replay_bus b clock (Stamped at (E.Add chip addr) ∷ l)) b.count out + unlit_total (replay_bus b clock (Stamped at (E.Add chip addr) ∷ l)) b.count out ≡ wait_sum b.count grown (flat (all_by_hand grown (At at) l))))
+      → (lit_total (replay_bus b clock (stamped at (E.Add chip addr) ∷ l)) b.count out ≡ lit_sum b.count out grown (flat (all_by_hand grown (Some at) l)))
+      × ((unlit_total (replay_bus b clock (stamped at (E.Add chip addr) ∷ l)) b.count out ≡ rest_sum b.count out grown (flat (all_by_hand grown (Some at) l)))
+      × (lit_total (replay_bus b clock (stamped at (E.Add chip addr) ∷ l)) b.count out + unlit_total (replay_bus b clock (stamped at (E.Add chip addr) ∷ l)) b.count out ≡ wait_sum b.count grown (flat (all_by_hand grown (Some at) l))))
   recording_added k =
       let o = grown_zero in
-      let r = recording_history grown (At at) l b.count out (replay_shape b clock (Stamped at (E.Add chip addr)) ∙ h) grown_there k in
+      let r = recording_history grown (Some at) l b.count out (replay_shape b clock (stamped at (E.Add chip addr)) ∙ h) grown_there k in
       rw (replay_on b clock at (E.Add chip addr) l z) (omega (arith, r.0, o.0), (omega (arith, r.1.0, o.1), omega (arith, r.1.1, o.0, o.1)))
 
 -- ---- no other event changes a total
@@ -200,9 +194,9 @@ module _ (b : Bus) (lit unlit : List ℕ) (h : bus_ok b ≡ true) (g : bus_ok (w
   abbrev pub Alike : Bus → Bus → Type 0
   Alike x y = (x.phase ≡ y.phase) × ((x.count ≡ y.count) × (x.devices ≡ y.devices))
 
-  added_alike : (found : Lookup) (address : ℕ) → Alike (added_to other found address) (added_to b found address)
-  added_alike Unknown address = (refl, (refl, refl))
-  added_alike (Known chip) address = (refl, (refl, refl))
+  added_alike : (found : Option Chip) (address : ℕ) → Alike (added_to other found address) (added_to b found address)
+  added_alike None address = (refl, (refl, refl))
+  added_alike (Some chip) address = (refl, (refl, refl))
 
   value_alike : (s : SignalEvent) → signal_value other s ≡ signal_value b s
   value_alike S.Start = refl
@@ -222,17 +216,11 @@ module _ (b : Bus) (lit unlit : List ℕ) (h : bus_ok b ≡ true) (g : bus_ok (w
 
   -- any event but a wait has the same code and value, and leaves the same devices
   pub totals_unseen : (e : Event) → is_wait e ≡ false → ((step_reply other e).code ≡ (step_reply b e).code) × (((step_reply other e).value ≡ (step_reply b e).value) × Alike (step_reply other e).bus (step_reply b e).bus)
-  totals_unseen e n =
-      elim (tested (eqb (step_reply b e).code 0)) [
-        | holds t ↦
-            let z = eqb-true _ 0 t in
-            let a = done_alike e n in
-            (code_alike e n, rw ((done b e z).1, (done other e (code_alike e n ∙ z)).1) a)
-        | fails t ↦
-            let m = eqb-false _ 0 t in
-            let p : (step_reply other e).code ≡ 0 → ⊥ = λ z. m (sym (code_alike e n) ∙ z) in
-            (code_alike e n, rw (refused_same b e m, refused_same other e p) (refl, (refl, (refl, refl))))
-      ]
+  totals_unseen e n = (
+    code_alike e n,
+    step_by b e (λ r. ((step_reply other e).value ≡ r.value) × Alike (step_reply other e).bus r.bus) (λ z m. rw (done other e (code_alike e n ∙ z)).1 (done_alike e n))
+        (λ m. rw (refused_same other e (λ z. m (sym (code_alike e n) ∙ z))) (refl, (refl, (refl, refl)))),
+  )
 
   -- and of a wait's conditions only that of 6 depends on them
   waiting_unseen : (k : ℕ) → (k ≡ 6 → ⊥) → (r s : Record) (c : Change) → r.device ≡ s.device → holds_at (change_refusals r c) k ≡ holds_at (change_refusals s c) k

@@ -1,17 +1,8 @@
 // The lit ticks among the first x. They are counted by whole periods and a remainder, so that 2 ^ 47 ticks cost no more than ten.
-ghost use Rattle.std.specs.Prelude.{◌≡◌, min, ◌%◌, ◌≤◌, ◌<◌};
+ghost use Rattle.std.specs.Prelude.{◌≡◌, ◌≤◌, ◌<◌};
 ghost use Rattle.lamp.specs.Window.{lit_ticks};
-ghost use Rattle.lamp.specs.Driver.{grouped};
 ghost use Rattle.lamp.specs.Blinker.{lit_below};
 ghost use Rattle.lamp.specs.laws.Count.{duty_count};
-
-use crate::Group;
-
-pub fn least(a: u64, b: u64) -> u64
-    ensures { result ≡ min a b }
-{
-    if a < b { a } else { b }
-}
 
 // Lit for the first `on` ticks of each `period`.
 #[tactic(auto, unfolding(crate::specs::laws::Count::duty_count))]
@@ -19,7 +10,7 @@ pub fn duty(period: u64, on: u64, x: u64) -> u64
     requires { (0 < period) × (on ≤ period) }
     ensures { result ≡ duty_count period on x }
 {
-    x / period * on + least(x % period, on)
+    x / period * on + on.min(x % period)
 }
 
 // The lit ones of each 256, at brightness pwm.
@@ -27,15 +18,6 @@ pub fn individual(pwm: u8, x: u64) -> u64
     ensures { result ≡ duty_count 256 pwm x }
 {
     duty(256, pwm as u64, x)
-}
-
-// Individual brightness and a group test, both of whose numbers are multiples of 256: the ticks at which the test holds are counted
-// first, and of each 256 of these `pwm` are lit.
-pub fn grouped(group: Group, pwm: u8, x: u64) -> u64
-    requires { (0 < group.period) × (group.period % 256 ≡ 0) × (group.on % 256 ≡ 0) × (group.on ≤ group.period) }
-    ensures { result ≡ lit_ticks (grouped group.period group.on pwm) 0 x }
-{
-    individual(pwm, duty(group.period, group.on, x))
 }
 
 // A blinker's output in the sense of the PCA9531: the prescaler makes one step of psc + 1 ticks, and 256 steps are the period.

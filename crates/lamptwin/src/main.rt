@@ -1,36 +1,32 @@
 // A bus over standard input and output: an answer line for each event line.
 #![tactic(auto)]
 
-ghost use Rattle.std.specs.Prelude.{◌≡◌, ◌≤◌, length};
+ghost use Rattle.std.specs.Prelude.{◌≡◌};
 ghost use Rattle.script.specs.Twin.{fresh_state};
 ghost use Rattle.stream.specs.Stream.{Stands, Answers};
 
 use std::io::Read;
 use stream::Stream;
-use stream::proved_callers::answer_from;
+use stream::proved_callers::Buffers;
 
 // From an empty bus on.
-fn answer_all(
-    rt: &(impl Print + Eprint),
-    reader: &mut impl Read,
-    read: &mut usize,
-    sent: &mut usize,
-    buf: &mut [u8],
-    out: &mut [u8],
-) -> Stream
-    requires { (length buf.old ≡ 65536) × (76 ≤ length out.old) × (read.old ≡ 0) × (sent.old ≡ 0) }
-    ensures answers { Answers fresh_state result buf.new }
-    ensures stands { Stands read.new sent.new result }
+fn answer_all(buffers: &mut Buffers, rt: &(impl Print + Eprint), reader: &mut impl Read) -> Stream
+    requires { (buffers.old.read ≡ 0) × (buffers.old.sent ≡ 0) }
+    ensures answers { Answers fresh_state result buffers.new.buf.now }
+    ensures stands { Stands buffers.new.read buffers.new.sent result }
 {
-    let first = script::fresh();
-    answer_from(rt, reader, first, read, sent, buf, out)
+    buffers.answer_from(rt, reader, script::fresh())
 }
 
 fn main(rt: HostRuntime) {
     let mut reader = rt.stdin();
     let mut buf = io::large_buffer();
     let mut out = io::large_buffer();
-    let mut read: usize = 0;
-    let mut sent: usize = 0;
-    answer_all(&rt, &mut reader, &mut read, &mut sent, &mut buf, &mut out);
+    let mut buffers = Buffers {
+        read: 0,
+        sent: 0,
+        buf: &mut buf,
+        out: &mut out,
+    };
+    answer_all(&mut buffers, &rt, &mut reader);
 }

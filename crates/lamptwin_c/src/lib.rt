@@ -6,8 +6,11 @@ ghost use Rattle.text.specs.Lines.{lines_of};
 ghost use Rattle.text.specs.Run.{RunsLog};
 ghost use Rattle.store.specs.Layout.{store_size};
 ghost use Rattle.store.specs.Calls.{replied, bytes, fresh_reply, save_reply, return_reply, read_reply, keep_reply};
+ghost use Rattle.refusals.specs.Reasons.{code_in, value_in};
 ghost use Rattle.script.specs.Totals.{totals_code, totals_after};
 ghost use Rattle.script.specs.Twin.{fresh_state, fresh_replay, twin};
+
+use refusals::Reason;
 
 #[unsafe(no_mangle)]
 pub extern "C" fn lamptwin_lines(log: &[u8]) -> usize
@@ -45,12 +48,20 @@ pub extern "C" fn lamptwin_store_size() -> usize
     store::SIZE
 }
 
+// Puts a reply's value, 0 where it is refused, and gives its code.
+fn put_reply(reply: Result<u64, Reason>, value: &mut u64) -> u64
+    ensures code { result ≡ code_in reply }
+    ensures value { value.new ≡ value_in reply }
+{
+    *value = reply.unwrap_or(0);
+    reply.map_or_else(u64::from, |_| 0)
+}
+
 #[unsafe(no_mangle)]
 pub extern "C" fn lamptwin_store_fresh(store: &mut [u8]) -> u64
     ensures { replied result 0 store.new ≡ fresh_reply store.old }
 {
-    let a = store::fresh(store);
-    a.code
+    store::fresh(store).map_or_else(u64::from, |()| 0)
 }
 
 #[unsafe(no_mangle)]
@@ -62,9 +73,7 @@ pub extern "C" fn lamptwin_store_save(
 ) -> u64
     ensures { replied result value.new store.new ≡ save_reply bytes store.old table setting.now }
 {
-    let a = store::save(store, table, setting);
-    *value = a.value;
-    a.code
+    put_reply(store::save(store, table, setting), value)
 }
 
 #[unsafe(no_mangle)]
@@ -76,9 +85,7 @@ pub extern "C" fn lamptwin_store_return(
 ) -> u64
     ensures { replied result value.new store.new ≡ return_reply bytes store.old table version }
 {
-    let a = store::return_to(store, table, version);
-    *value = a.value;
-    a.code
+    put_reply(store::return_to(store, table, version), value)
 }
 
 #[unsafe(no_mangle)]
@@ -91,16 +98,12 @@ pub extern "C" fn lamptwin_store_read(
 ) -> u64
     ensures { replied result value.new buffer.new ≡ read_reply bytes store.now table version buffer.old }
 {
-    let a = store::read(store, table, version, buffer);
-    *value = a.value;
-    a.code
+    put_reply(store::read(store, table, version, buffer), value)
 }
 
 #[unsafe(no_mangle)]
 pub extern "C" fn lamptwin_store_keep(store: &mut [u8], list: &[u64], value: &mut u64) -> u64
     ensures { replied result value.new store.new ≡ keep_reply bytes store.old list.now }
 {
-    let a = store::keep(store, list);
-    *value = a.value;
-    a.code
+    put_reply(store::keep(store, list), value)
 }

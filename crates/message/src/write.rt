@@ -1,5 +1,6 @@
 // The write message: START, the address, the lent bytes, STOP.
 ghost use Rattle.std.specs.Prelude.{◌≡◌, map, ◌≤◌};
+ghost use Rattle.refusals.specs.Reasons.{code_in};
 ghost use Rattle.refusals.specs.Refusals.{code_of};
 ghost use Rattle.bus.specs.declared.SignalEvent.TheVariants.{Put};
 ghost use Rattle.message.specs.Message.{message_done};
@@ -8,47 +9,48 @@ ghost use Rattle.message.specs.Sent.{sent_by};
 
 use crate::sent::Sent;
 use bus::{Bus, Reply};
-use refusals::or_refused;
+use protocol::signals::is_open;
+use refusals::{Reason, judge};
 
-// A read is refused with these numbers, too.
-pub(crate) fn write_code(bus: Bus, address: u64) -> u64
-    ensures { result ≡ code_of (write_refusals bus address) }
+fn write_check(bus: Bus, address: u64) -> Result<(), Reason>
+    ensures { code_in result ≡ code_of (write_refusals bus address) }
 {
-    let phase = bus.phase;
-    let code = or_refused(0, 4, !bus::is_ok(bus));
-    let code = or_refused(code, 5, protocol::signals::is_open(phase));
-    or_refused(code, 7, 127 < address)
+    judge(&[
+        (Reason::Malformed, !bus::is_ok(bus)),
+        (Reason::OutOfTurn, is_open(bus.phase)),
+        (Reason::TooLarge, 127 < address),
+    ])
 }
 
-// Each lent byte in turn.
-fn put_all(first: Sent, bytes: &[u8]) -> Sent
-    requires { first.acks ≤ 1 }
-    ensures { result ≡ sent_by first (map Put bytes.now) }
-{
-    let mut sent = first;
-    for i in 0..bytes.len() {
-        sent = crate::sent::put(sent, bytes[i] as u64);
+impl Sent {
+    // Each lent byte in turn.
+    #[tactic(auto, using(crate::proofs::laws::Sent::sent_none, crate::proofs::laws::Sent::puts_more))]
+    fn put_all(self, bytes: &[u8]) -> Sent
+        requires { self.acks ≤ 1 }
+        ensures { result ≡ sent_by self (map Put bytes.now) }
+    {
+        let mut sent = self;
+        for &byte in bytes {
+            sent = sent.put(byte as u64);
+        }
+        sent
     }
-    sent
 }
 
+#[tactic(auto, using(crate::proofs::laws::Sent::sent_append, crate::proofs::laws::Sent::ended_is))]
 fn write_done(bus: Bus, address: u64, bytes: &[u8]) -> Reply
     requires { address ≤ 127 }
     ensures { result ≡ message_done bus (write_events address bytes.now) }
 {
-    let started = crate::sent::start(Sent { acks: 0, bus: bus });
-    let addressed = crate::sent::put(started, 2 * address);
-    crate::sent::stop(put_all(addressed, bytes))
+    Sent::on(bus).start().put(2 * address).put_all(bytes).stop()
 }
 
 #[tactic(auto, unfolding(crate::specs::Write::write_reply))]
 pub fn write_message(bus: Bus, address: u64, bytes: &[u8]) -> Reply
     ensures { result ≡ write_reply bus address bytes.now }
 {
-    let code = write_code(bus, address);
-    if code == 0 {
-        write_done(bus, address, bytes)
-    } else {
-        bus::refused(bus, code)
+    match write_check(bus, address) {
+        Ok(()) => write_done(bus, address, bytes),
+        Err(reason) => bus::refused_for(bus, reason),
     }
 }

@@ -9,7 +9,7 @@ pub mod stop;
 pub mod write;
 
 // What goes over the bus for all devices alike: a byte put by the master, a get with its acknowledge.
-#[derive(Clone, Copy)]
+#[derive(Clone, Copy, Debug, PartialEq, Eq)]
 pub enum Signal {
     Start,
     Stop,

@@ -7,15 +7,7 @@ use device::{Device, Phase, Stage};
 pub fn is_selected(stage: Stage) -> bool
     ensures { result ≡ is_selected stage }
 {
-    match stage {
-        Stage::Unselected => false,
-        Stage::Control => true,
-        Stage::Data => true,
-        Stage::Talking => true,
-        Stage::ResetCall => true,
-        Stage::ResetFirst => true,
-        Stage::ResetBoth => true,
-    }
+    stage != Stage::Unselected
 }
 
 // The device after the byte.
@@ -24,11 +16,9 @@ pub fn after_put(phase: Phase, byte: u8, d: Device) -> Device
     ensures { result ≡ after_put phase byte d }
 {
     match phase {
-        Phase::Address => device::with_stage(d, crate::selection::stage_after_address(d, byte)),
+        Phase::Address => d.with_stage(crate::selection::stage_after_address(d, byte)),
         Phase::Write => crate::write::after_byte(byte, d),
-        Phase::Idle => d,
-        Phase::Read => d,
-        Phase::Ended => d,
+        Phase::Idle | Phase::Read | Phase::Ended => d,
     }
 }
 
@@ -40,8 +30,6 @@ pub fn acks(phase: Phase, byte: u8, d: Device) -> bool
     match phase {
         Phase::Address => is_selected(crate::selection::stage_after_address(d, byte)),
         Phase::Write => crate::write::acks(byte, d),
-        Phase::Idle => false,
-        Phase::Read => false,
-        Phase::Ended => false,
+        Phase::Idle | Phase::Read | Phase::Ended => false,
     }
 }

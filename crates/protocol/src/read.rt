@@ -4,18 +4,10 @@ ghost use Rattle.protocol.specs.Read.{is_talking, register_byte, pointed_byte, t
 
 use device::{Device, Phase, Stage};
 
-fn is_talking(stage: Stage) -> bool
-    ensures { result ≡ is_talking stage }
+fn is_talking(d: Device) -> bool
+    ensures { result ≡ is_talking d.stage }
 {
-    match stage {
-        Stage::Unselected => false,
-        Stage::Control => false,
-        Stage::Data => false,
-        Stage::Talking => true,
-        Stage::ResetCall => false,
-        Stage::ResetFirst => false,
-        Stage::ResetBoth => false,
-    }
+    d.stage == Stage::Talking
 }
 
 // A register other than INPUT as it reads.
@@ -23,21 +15,15 @@ fn is_talking(stage: Stage) -> bool
 fn register_byte(d: Device) -> u8
     ensures { result ≡ register_byte d }
 {
-    let chip = d.chip;
-    let written = d.written;
-    let at = chip::control::register(chip, d.control) as usize;
-    chip::values::read(chip, d.control, device::registers::at(written, at))
+    d.chip.read(d.control, d.held(d.pointer()))
 }
 
 #[tactic(auto, unfolding(crate::specs::Read::pointed_byte))]
 fn pointed_byte(d: Device) -> u8
     ensures { result ≡ pointed_byte d }
 {
-    let chip = d.chip;
-    if chip::is_driver(chip) {
-        register_byte(d)
-    } else if chip::control::register(chip, d.control) == chip::INPUT {
-        device::output::input_byte(d)
+    if !d.chip.is_driver() && d.pointer() == chip::INPUT as usize {
+        d.input_byte()
     } else {
         register_byte(d)
     }
@@ -48,24 +34,18 @@ fn pointed_byte(d: Device) -> u8
 pub fn talk(d: Device) -> u8
     ensures { result ≡ talk_of d }
 {
-    let stage = d.stage;
-    if is_talking(stage) {
-        pointed_byte(d)
-    } else {
-        255
-    }
+    if is_talking(d) { pointed_byte(d) } else { 255 }
 }
 
 #[tactic(auto, unfolding(crate::specs::Read::after_talk))]
 fn after_talk(d: Device) -> Device
     ensures { result ≡ after_talk d }
 {
-    let chip = d.chip;
-    let stage = d.stage;
-    let mut next = d;
-    if is_talking(stage) {
-        next.control = chip::control::moved(chip, d.control);
-        next
+    if is_talking(d) {
+        Device {
+            control: d.chip.moved(d.control),
+            ..d
+        }
     } else {
         d
     }
@@ -79,7 +59,7 @@ pub fn after_get(ack: bool, d: Device) -> Device
     if ack {
         after_talk(d)
     } else {
-        device::with_stage(after_talk(d), Stage::Unselected)
+        after_talk(d).with_stage(Stage::Unselected)
     }
 }
 

@@ -1,22 +1,22 @@
 // Who answers an address.
-ghost use Rattle.std.specs.Prelude.{◌≡◌, ◌||◌};
+ghost use Rattle.std.specs.Prelude.{◌≡◌};
 ghost use Rattle.chip.specs.Kinds.{outputs_of};
 ghost use Rattle.protocol.specs.Selection.{after_start, own_address, shared_by, answers_shared, answers, call_stage, stage_after_address, phase_after_address};
 
+use device::registers::bit;
 use device::{Device, Phase, Stage};
 
 pub fn after_start(d: Device) -> Device
     ensures { result ≡ after_start d }
 {
-    device::with_stage(d, Stage::Unselected)
+    d.with_stage(Stage::Unselected)
 }
 
 #[tactic(auto, unfolding(crate::specs::Selection::own_address))]
 fn own_address(d: Device) -> u16
     ensures { result ≡ own_address d }
 {
-    let chip = d.chip;
-    if chip::is_driver(chip) {
+    if d.chip.is_driver() {
         d.address as u16
     } else {
         96 + d.address as u16
@@ -27,26 +27,7 @@ fn own_address(d: Device) -> u16
 fn shared_by(d: Device, k: u8, register: usize, address: u8) -> bool
     ensures { result ≡ shared_by d k register address }
 {
-    if device::registers::bit(k, d.written[chip::MODE1 as usize]) {
-        let written = d.written;
-        device::registers::at(written, register) / 2 == address
-    } else {
-        false
-    }
-}
-
-fn any(a: bool, b: bool, c: bool, d: bool) -> bool
-    ensures { result ≡ (a || b || c || d) }
-{
-    if a {
-        true
-    } else if b {
-        true
-    } else if c {
-        true
-    } else {
-        d
-    }
+    bit(k, d.written[chip::MODE1 as usize]) && d.held(register) / 2 == address
 }
 
 // ALLCALLADR with MODE1 bit 0; SUBADR1, 2, 3 with bits 3, 2, 1.
@@ -54,42 +35,26 @@ fn any(a: bool, b: bool, c: bool, d: bool) -> bool
 fn answers_shared(d: Device, address: u8) -> bool
     ensures { result ≡ answers_shared d (outputs_of d.chip) address }
 {
-    let chip = d.chip;
-    let map = chip::register_map(chip);
-    let all = map.allcalladr as usize;
-    let sub1 = map.subadr1 as usize;
-    any(
-        shared_by(d, 0, all, address),
-        shared_by(d, 3, sub1, address),
-        shared_by(d, 2, sub1 + 1, address),
-        shared_by(d, 1, sub1 + 2, address),
-    )
+    let map = d.chip.register_map();
+    let subadr1 = map.subadr1 as usize;
+    shared_by(d, 0, map.allcalladr as usize, address)
+        || shared_by(d, 3, subadr1, address)
+        || shared_by(d, 2, subadr1 + 1, address)
+        || shared_by(d, 1, subadr1 + 2, address)
 }
 
 #[tactic(auto, unfolding(crate::specs::Selection::answers))]
 fn is_addressed(d: Device, address: u8) -> bool
     ensures { result ≡ answers d address }
 {
-    let chip = d.chip;
-    if own_address(d) == address as u16 {
-        true
-    } else if chip::is_driver(chip) {
-        answers_shared(d, address)
-    } else {
-        false
-    }
+    own_address(d) == address as u16 || d.chip.is_driver() && answers_shared(d, address)
 }
 
 fn reset_call(d: Device, byte: u8) -> Stage
     ensures { result ≡ call_stage d byte }
 {
-    let chip = d.chip;
-    if byte % 2 == 0 {
-        if chip::is_driver(chip) {
-            Stage::ResetCall
-        } else {
-            Stage::Unselected
-        }
+    if byte % 2 == 0 && d.chip.is_driver() {
+        Stage::ResetCall
     } else {
         Stage::Unselected
     }

@@ -8,25 +8,13 @@ use device::{Device, Phase};
 fn takes_put(phase: Phase) -> bool
     ensures { result ≡ takes_put phase }
 {
-    match phase {
-        Phase::Idle => false,
-        Phase::Address => true,
-        Phase::Write => true,
-        Phase::Read => false,
-        Phase::Ended => false,
-    }
+    matches!(phase, Phase::Address | Phase::Write)
 }
 
 pub fn is_open(phase: Phase) -> bool
     ensures { result ≡ is_open phase }
 {
-    match phase {
-        Phase::Idle => false,
-        Phase::Address => true,
-        Phase::Write => true,
-        Phase::Read => true,
-        Phase::Ended => true,
-    }
+    phase != Phase::Idle
 }
 
 // Not "out of turn" (RULES, Refusals).
@@ -37,19 +25,17 @@ pub fn in_turn(phase: Phase, signal: Signal) -> bool
         Signal::Start => true,
         Signal::Stop => is_open(phase),
         Signal::Put(_) => takes_put(phase),
-        Signal::Get(_) => device::well_formed::is_read(phase),
+        Signal::Get(_) => phase.is_read(),
     }
 }
 
 fn phase_after_put(phase: Phase, byte: u8) -> Phase
     ensures { result ≡ phase_after_put phase byte }
 {
-    match phase {
-        Phase::Idle => Phase::Idle,
-        Phase::Address => crate::selection::phase_after_address(byte),
-        Phase::Write => Phase::Write,
-        Phase::Read => Phase::Read,
-        Phase::Ended => Phase::Ended,
+    if phase == Phase::Address {
+        crate::selection::phase_after_address(byte)
+    } else {
+        phase
     }
 }
 

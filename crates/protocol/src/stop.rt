@@ -6,18 +6,10 @@ ghost use Rattle.protocol.specs.Stop.{committed, after_commit, took_reset, after
 use chip::Chip;
 use device::{Device, Stage};
 
-fn took_reset(stage: Stage) -> bool
-    ensures { result ≡ took_reset stage }
+fn took_reset(d: Device) -> bool
+    ensures { result ≡ took_reset d.stage }
 {
-    match stage {
-        Stage::Unselected => false,
-        Stage::Control => false,
-        Stage::Data => false,
-        Stage::Talking => false,
-        Stage::ResetCall => false,
-        Stage::ResetFirst => false,
-        Stage::ResetBoth => true,
-    }
+    d.stage == Stage::ResetBoth
 }
 
 // The copy in effect after a commit.
@@ -25,13 +17,9 @@ fn took_reset(stage: Stage) -> bool
 fn committed(chip: Chip, written: [u8; 28], effective: [u8; 28]) -> [u8; 28]
     ensures { result ≡ committed (outputs_of chip) written effective }
 {
-    let map = chip::register_map(chip);
-    let end = map.subadr1 as usize;
     let mut next = effective;
-    let mut i = chip::PWM0 as usize;
-    while i < end {
+    for i in chip::PWM0 as usize..chip.register_map().subadr1 as usize {
         next[i] = written[i];
-        i += 1;
     }
     next
 }
@@ -40,18 +28,9 @@ fn committed(chip: Chip, written: [u8; 28], effective: [u8; 28]) -> [u8; 28]
 fn after_commit(d: Device) -> Device
     ensures { result ≡ after_commit d }
 {
-    let chip = d.chip;
-    let written = d.written;
-    let effective = d.effective;
-    let mut next = d;
-    if chip::is_driver(chip) {
-        if device::registers::is_awake(d) {
-            let after = committed(chip, written, effective);
-            next.effective = after;
-            next
-        } else {
-            d
-        }
+    if d.chip.is_driver() && d.is_awake() {
+        let effective = committed(d.chip, d.written, d.effective);
+        Device { effective, ..d }
     } else {
         d
     }
@@ -61,15 +40,9 @@ fn after_commit(d: Device) -> Device
 pub fn after_stop(d: Device) -> Device
     ensures { result ≡ after_stop d }
 {
-    let chip = d.chip;
-    let stage = d.stage;
-    if chip::is_driver(chip) {
-        if took_reset(stage) {
-            device::after_reset(d)
-        } else {
-            device::with_stage(after_commit(d), Stage::Unselected)
-        }
+    if d.chip.is_driver() && took_reset(d) {
+        d.after_reset()
     } else {
-        device::with_stage(after_commit(d), Stage::Unselected)
+        after_commit(d).with_stage(Stage::Unselected)
     }
 }

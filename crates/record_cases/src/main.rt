@@ -5,7 +5,9 @@
 mod records;
 mod stages;
 
-fn main() {
-    stages::run();
-    records::run();
+use std::io;
+
+fn main(rt: HostRuntime) -> io::Result<()> {
+    stages::run(&rt)?;
+    records::run(&rt)
 }

@@ -1,2 +1,3 @@
 pub mod Refusals
+pub mod Reasons
 pub mod laws

@@ -1,28 +1,34 @@
-// The number of a refusal: the least of those that hold.
+// Why a call is refused, and the number of a refusal: the least of those that hold.
 #![tactic(auto)]
 
-ghost use Rattle.std.specs.Prelude.{◌≡◌};
-ghost use Rattle.refusals.specs.Refusals.{refuse, least, number_of};
+mod verdict;
 
-// The lesser of two codes, where 0 is none.
-#[tactic(auto, unfolding(crate::specs::Refusals::least))]
-pub fn least(a: u64, b: u64) -> u64
-    ensures { result ≡ least a b }
-{
-    if a == 0 {
-        b
-    } else if b == 0 {
-        a
-    } else if b < a {
-        b
-    } else {
-        a
-    }
+pub use verdict::{judge, least, or_refused};
+
+// The owner's reasons, in the order of their numbers, from 1 on.
+#[derive(Clone, Copy, Debug, PartialEq, Eq)]
+pub enum Reason {
+    UnknownKind,
+    WrongAddress,
+    NoPosition,
+    Malformed,
+    OutOfTurn,
+    PastLimit,
+    TooLarge,
+    NoRoom,
+    NoOutput,
+    WrongDevice,
+    NoVersion,
+    StoreFull,
 }
 
-// A code, with one refusal more.
-pub fn or_refused(code: u64, number: u64, holds: bool) -> u64
-    ensures { result ≡ least code (number_of (refuse number holds)) }
-{
-    if holds { least(code, number) } else { code }
+impl From<Reason> for u64 {
+    ghost use Rattle.std.specs.Prelude.{◌≡◌};
+    ghost use Rattle.refusals.specs.Reasons.{number};
+
+    ghost from_gives = { λ reason n. n ≡ number reason };
+
+    fn from(reason: Reason) -> u64 {
+        reason as u64 + 1
+    }
 }

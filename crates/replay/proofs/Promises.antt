@@ -1,7 +1,6 @@
 -- Promises on a replay, for any bus, clock and entry: the code is the least number whose condition holds, and only 6 depends on the time; a refused entry changes nothing;
 -- an accepted one is the waits of its time and its event by hand; no entry changes whether a bus is well formed.
-use Rattle.std.specs.Prelude.{◌≡◌, ℕ, ◌-◌, ◌%◌, ◌^◌, ◌<◌, ◌≤◌, true, List, [], ◌∷◌, ◌==◌, ◌≢◌}
-use Rattle.std.proofs.Math.Path.{refl}
+use Rattle.std.specs.Prelude.{Option, Some, None, ◌≡◌, ℕ, ◌-◌, ◌%◌, ◌^◌, ◌<◌, ◌≤◌, true, List, [], ◌∷◌, ◌==◌, ◌≢◌, refl}
 use Rattle.std.proofs.Common.{sym, ap, ◌∙◌, arith, le_refl, eqb-true, eq-eqb, ne_eqb}
 use Rattle.std.proofs.Math.Bool.{or-false}
 use Rattle.std.proofs.lemmas.Bool.{eqb-false}
@@ -20,16 +19,13 @@ use Rattle.bus.proofs.laws.WellFormed.{done_shape, done_code}
 use Rattle.bus.specs.declared.Bus.{Bus}
 use Rattle.bus.specs.declared.Event.{Event}
 use Rattle.bus.specs.declared.Reply.{Reply}
-use Rattle.replay.specs.Time.{between, since, overruns_any, after_time}
-use Rattle.replay.specs.Replay.{timed_refusals, timed_reply, replayed, replay_replies, replay_bus}
+use Rattle.replay.specs.Time.{Clock, between, since, overruns_any, after_time}
+use Rattle.replay.specs.Replay.{stamped, timed_refusals, timed_reply, replayed, replay_replies, replay_bus}
 use Rattle.replay.specs.ByHand.{waits_below, by_hand, all_by_hand, flat, AllAccepted, last_value, last_values, accepted_values}
 use Rattle.replay.proofs.laws.Alike.{time_shape, event_alike}
 use Rattle.replay.proofs.laws.Timed.{step_done_lem, timed_positive}
 use Rattle.replay.proofs.laws.Waits.{accepted_both, last_value_lem, waits_run, waits_accepted}
-use Rattle.replay.specs.declared.Clock.{Clock}
-use Rattle.replay.specs.declared.Clock.TheVariants.{Unset, At}
 use Rattle.replay.specs.declared.Entry.{Entry}
-use Rattle.replay.specs.declared.Entry.TheVariants.{Stamped, Unknown}
 use Rattle.replay.specs.declared.Replayed.{Replayed}
 
 -- ---- the time between two stamps
@@ -70,54 +66,55 @@ module _ (ticks : DriverTicks) (b : Bus) (e : Event) where
 -- ---- refused and accepted entries
 
 -- refused: the bus and the clock are as they were
-pub replay_refused : (b : Bus) (clock : Clock) (x : Entry) → ((replayed b clock x).reply.code ≢ 0) → replayed b clock x ≡ record { reply = refused_with b (replayed b clock x).reply.code; clock = clock }
+pub replay_refused : (b : Bus) (clock : Clock) (x : Option Entry) → ((replayed b clock x).reply.code ≢ 0) → replayed b clock x ≡ record { reply = refused_with b (replayed b clock x).reply.code; clock = clock }
 unfolding replayed
-replay_refused b clock (Stamped at e) n = rw (ne_eqb _ 0 n, ← timed_refused (since clock at) b e n)
-replay_refused b clock Unknown n = refl
+replay_refused b clock (Some x) n = rw (ne_eqb _ 0 n, ← timed_refused (since clock x.at) b x.event n)
+replay_refused b clock None n = refl
 
 -- accepted: the event's value and bus, once the time has passed, and the entry's stamp
-pub replay_accepted : (b : Bus) (clock : Clock) (at : ℕ) (e : Event) → (replayed b clock (Stamped at e)).reply.code ≡ 0 → replayed b clock (Stamped at e) ≡ record { reply = step_done (after_time (since clock at) b) e; clock = At at }
+pub replay_accepted : (b : Bus) (clock : Clock) (at : ℕ) (e : Event) → (replayed b clock (stamped at e)).reply.code ≡ 0 → replayed b clock (stamped at e) ≡ record { reply = step_done (after_time (since clock at) b) e; clock = Some at }
 unfolding replayed
 replay_accepted b clock at e z = rw (eq-eqb _ 0 z, (timed_done (since clock at) b e z).1)
 
 -- the event by itself is accepted then
-pub replay_event : (b : Bus) (clock : Clock) (at : ℕ) (e : Event) → (replayed b clock (Stamped at e)).reply.code ≡ 0 → (step_reply (after_time (since clock at) b) e).code ≡ 0
+pub replay_event : (b : Bus) (clock : Clock) (at : ℕ) (e : Event) → (replayed b clock (stamped at e)).reply.code ≡ 0 → (step_reply (after_time (since clock at) b) e).code ≡ 0
 unfolding replayed
 replay_event b clock at e z =
     let m = after_time (since clock at) b in
     step_code m e ∙ none_code (step_refusals m e) (none_both (step_refusals m e) _ (timed_done (since clock at) b e z).0).0
 
 -- so its bus is that event's
-pub replay_bus_lem : (b : Bus) (clock : Clock) (at : ℕ) (e : Event) → (replayed b clock (Stamped at e)).reply.code ≡ 0 → (replayed b clock (Stamped at e)).reply.bus ≡ (step_reply (after_time (since clock at) b) e).bus
+pub replay_bus_lem : (b : Bus) (clock : Clock) (at : ℕ) (e : Event) → (replayed b clock (stamped at e)).reply.code ≡ 0 → (replayed b clock (stamped at e)).reply.bus ≡ (step_reply (after_time (since clock at) b) e).bus
 replay_bus_lem b clock at e z =
     ap (λ (r : Replayed). r.reply.bus) (replay_accepted b clock at e z)
     ∙ ap (λ (r : Reply). r.bus) (sym (done (after_time (since clock at) b) e (replay_event b clock at e z)).1)
 
 -- and the recording goes on from there
-pub replay_on : (b : Bus) (clock : Clock) (at : ℕ) (e : Event) (l : List Entry) → (replayed b clock (Stamped at e)).reply.code ≡ 0 → replay_bus b clock (Stamped at e ∷ l) ≡ replay_bus (replayed b clock (Stamped at e)).reply.bus (At at) l
+pub replay_on : (b : Bus) (clock : Clock) (at : ℕ) (e : Event) (l : List (Option Entry)) → (replayed b clock (stamped at e)).reply.code ≡ 0 → replay_bus b clock (stamped at e ∷ l) ≡ replay_bus (replayed b clock (stamped at e)).reply.bus (Some at) l
 replay_on b clock at e l z =
-    ap (λ (c : Clock). replay_bus (replayed b clock (Stamped at e)).reply.bus c l) (ap (λ (r : Replayed). r.clock) (replay_accepted b clock at e z))
+    ap (λ (c : Clock). replay_bus (replayed b clock (stamped at e)).reply.bus c l) (ap (λ (r : Replayed). r.clock) (replay_accepted b clock at e z))
 
 -- ---- well-formedness
 
-pub replay_shape : (b : Bus) (clock : Clock) (x : Entry) → bus_ok (replayed b clock x).reply.bus ≡ bus_ok b
+pub replay_shape : (b : Bus) (clock : Clock) (x : Option Entry) → bus_ok (replayed b clock x).reply.bus ≡ bus_ok b
 unfolding replayed
-replay_shape b clock (Stamped at e) = timed_shape (since clock at) b e
-replay_shape b clock Unknown = refl
+replay_shape b clock (Some x) = timed_shape (since clock x.at) b x.event
+replay_shape b clock None = refl
 
 -- and so through a whole recording
-pub recording_shape : (b : Bus) (clock : Clock) (l : List Entry) → bus_ok (replay_bus b clock l) ≡ bus_ok b
+pub recording_shape : (b : Bus) (clock : Clock) (l : List (Option Entry)) → bus_ok (replay_bus b clock l) ≡ bus_ok b
 recording_shape b clock [] = refl
 recording_shape b clock (x ∷ l) = recording_shape (replayed b clock x).reply.bus (replayed b clock x).clock l ∙ replay_shape b clock x
 
 -- ---- the same by hand
 
 -- an accepted entry, from any well-formed bus: every wait and the event are accepted, and give the entry's value and bus
-pub entry_by_hand : (b : Bus) (clock : Clock) (x : Entry) → bus_ok b ≡ true → (replayed b clock x).reply.code ≡ 0
+pub entry_by_hand : (b : Bus) (clock : Clock) (x : Option Entry) → bus_ok b ≡ true → (replayed b clock x).reply.code ≡ 0
     → AllAccepted b (by_hand b clock x) × (last_value 0 (run_replies b (by_hand b clock x)) ≡ (replayed b clock x).reply.value) × (run_bus b (by_hand b clock x) ≡ (replayed b clock x).reply.bus)
 unfolding replayed by_hand after_time
-entry_by_hand b clock (Stamped at e) well z =
-    let ticks = since clock at in
+entry_by_hand b clock (Some x) well z =
+    let e = x.event in
+    let ticks = since clock x.at in
     let t = timed_done ticks b e z in
     let n = none_both (step_refusals (after_time ticks b) e) _ t.0 in
     let l = waits_below ticks b b.count in
@@ -127,10 +124,10 @@ entry_by_hand b clock (Stamped at e) well z =
       last_value_lem 0 b l e ∙ rw s,
       run_both b l (e ∷ []) ∙ ap (λ (r : Reply). r.bus) s,
     )
-entry_by_hand b clock Unknown well z = absurd (omega arith)
+entry_by_hand b clock None well z = absurd (omega arith)
 
 -- a whole recording, from any well-formed bus
-pub recording_by_hand : (b : Bus) (clock : Clock) (l : List Entry) → bus_ok b ≡ true
+pub recording_by_hand : (b : Bus) (clock : Clock) (l : List (Option Entry)) → bus_ok b ≡ true
     → AllAccepted b (flat (all_by_hand b clock l)) × (last_values b (all_by_hand b clock l) ≡ accepted_values (replay_replies b clock l)) × (run_bus b (flat (all_by_hand b clock l)) ≡ replay_bus b clock l)
 unfolding all_by_hand
 recording_by_hand b clock [] well = (tt, refl, refl)
@@ -151,6 +148,6 @@ recording_by_hand b clock (x ∷ l) well =
     ]
 
 -- from an empty bus
-pub evening_by_hand : (l : List Entry)
-    → AllAccepted empty_bus (flat (all_by_hand empty_bus Unset l)) × (last_values empty_bus (all_by_hand empty_bus Unset l) ≡ accepted_values (replay_replies empty_bus Unset l)) × (run_bus empty_bus (flat (all_by_hand empty_bus Unset l)) ≡ replay_bus empty_bus Unset l)
-evening_by_hand l = recording_by_hand empty_bus Unset l empty_well
+pub evening_by_hand : (l : List (Option Entry))
+    → AllAccepted empty_bus (flat (all_by_hand empty_bus None l)) × (last_values empty_bus (all_by_hand empty_bus None l) ≡ accepted_values (replay_replies empty_bus None l)) × (run_bus empty_bus (flat (all_by_hand empty_bus None l)) ≡ replay_bus empty_bus None l)
+evening_by_hand l = recording_by_hand empty_bus None l empty_well

@@ -1,4 +1,5 @@
 pub mod Alike
+pub mod Late
 pub mod Passed
 pub mod Time
 pub mod Timed

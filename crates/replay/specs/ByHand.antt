@@ -1,5 +1,5 @@
 -- A replay by hand: for each accepted entry a wait for every driver, and then the entry's event, all by calls on the bus.
-use Rattle.std.specs.Prelude.{◌≡◌, ℕ, zero, suc, cond, List, [], ◌∷◌, ◌++◌, ◌==◌}
+use Rattle.std.specs.Prelude.{Option, Some, None, ◌≡◌, ℕ, zero, suc, cond, List, [], ◌∷◌, ◌++◌, ◌==◌}
 use Rattle.lamp.specs.declared.DriverTicks.{DriverTicks}
 use Rattle.chip.specs.Kinds.{is_driver}
 use Rattle.bus.specs.Devices.{device_at}
@@ -9,11 +9,9 @@ use Rattle.bus.specs.declared.Change.TheVariants.{Wait}
 use Rattle.bus.specs.declared.Event.{Event}
 use Rattle.bus.specs.declared.Event.TheVariants.{Change}
 use Rattle.bus.specs.declared.Reply.{Reply}
-use Rattle.replay.specs.Time.{since}
+use Rattle.replay.specs.Time.{Clock, since}
 use Rattle.replay.specs.Replay.{replayed}
-use Rattle.replay.specs.declared.Clock.{Clock}
 use Rattle.replay.specs.declared.Entry.{Entry}
-use Rattle.replay.specs.declared.Entry.TheVariants.{Stamped, Unknown}
 
 -- a wait for the device at position i, where that is a driver
 abbrev pub wait_at : DriverTicks → Bus → ℕ → List Event
@@ -25,12 +23,12 @@ waits_below ticks b zero = []
 waits_below ticks b (suc n) = waits_below ticks b n ++ wait_at ticks b n
 
 -- an entry by hand: the waits for its time, and then its event
-unfoldable pub by_hand : Bus → Clock → Entry → List Event
-by_hand b clock (Stamped at e) = waits_below (since clock at) b b.count ++ e ∷ []
-by_hand b clock Unknown = []
+unfoldable pub by_hand : Bus → Clock → Option Entry → List Event
+by_hand b clock (Some x) = waits_below (since clock x.at) b b.count ++ x.event ∷ []
+by_hand b clock None = []
 
 -- the accepted entries of a recording, each by hand
-unfoldable pub all_by_hand : Bus → Clock → List Entry → List (List Event)
+unfoldable pub all_by_hand : Bus → Clock → List (Option Entry) → List (List Event)
 all_by_hand b clock [] = []
 all_by_hand b clock (x ∷ l) =
     cond ((replayed b clock x).reply.code == 0) (by_hand b clock x ∷ []) []

@@ -1,5 +1,5 @@
 -- The time between two entries of a recording, and what it does to a bus (RULES, Replay).
-use Rattle.std.specs.Prelude.{ℕ, zero, suc, ◌+◌, ◌-◌, ◌%◌, ◌^◌, Bool, cond, not, ◌&&◌}
+use Rattle.std.specs.Prelude.{Option, Some, None, ℕ, zero, suc, ◌+◌, ◌-◌, ◌%◌, ◌^◌, Bool, cond, not, ◌&&◌}
 use Rattle.basics.specs.Below.{all_below}
 use Rattle.lamp.specs.declared.DriverTicks.{DriverTicks}
 use Rattle.chip.specs.Kinds.{is_driver}
@@ -7,8 +7,10 @@ use Rattle.totals.specs.Wait.{exceeds, waited}
 use Rattle.totals.specs.declared.Record.{Record}
 use Rattle.bus.specs.Devices.{bus_ok, record_at, with_record}
 use Rattle.bus.specs.declared.Bus.{Bus}
-use Rattle.replay.specs.declared.Clock.{Clock}
-use Rattle.replay.specs.declared.Clock.TheVariants.{Unset, At}
+
+-- the stamp of the last accepted entry, or none yet
+abbrev pub Clock : Type 0
+Clock = Option ℕ
 
 -- later minus earlier, around the roll-over of a stamp of 32 bits
 unfoldable pub between : ℕ → ℕ → ℕ
@@ -16,8 +18,8 @@ between later earlier = (later + (2 ^ 32 - earlier)) % 2 ^ 32
 
 -- the ticks since the last accepted entry; until one is accepted, none
 abbrev pub since : Clock → ℕ → DriverTicks
-since Unset at = record { 0 = 0 }
-since (At last) at = record { 0 = between at last }
+since None at = record { 0 = 0 }
+since (Some last) at = record { 0 = between at last }
 
 -- a driver's count and totals have room for the time; a blinker takes none of it
 abbrev pub fits : DriverTicks → Record → Bool

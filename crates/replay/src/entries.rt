@@ -1,57 +1,60 @@
 // One entry: the time since the last accepted one, and then its event.
 ghost use Rattle.std.specs.Prelude.{◌≡◌};
 ghost use Rattle.bus.specs.Devices.{bus_ok};
-ghost use Rattle.replay.specs.Replay.{timed_reply, clock_after, replayed};
+ghost use Rattle.replay.specs.Replay.{timed_reply, replayed};
 
+use crate::time::{pass, since};
 use crate::{Clock, Entry, Replayed};
-use bus::proved_callers::step_judged;
-use bus::{Bus, Event, Reply};
+use bus::{Bus, Event, Judged, Reply};
 use lamp::DriverTicks;
-use refusals::or_refused;
+use refusals::{Reason, or_refused};
 
-// Time and event are refused together, by the least number, and then neither happens.
-fn timed(ok: bool, ticks: DriverTicks, bus: Bus, event: Event) -> Reply
-    requires { ok ≡ bus_ok bus }
-    ensures { result ≡ timed_reply ticks bus event }
+// Time and event are refused together, by the least number, and then neither happens. Where the time has no room, the event is judged
+// without it, since it changes no number of an event but 6.
+fn timed(ticks: DriverTicks, judged: Judged, event: Event) -> Reply
+    ensures { result ≡ timed_reply ticks judged.bus event }
 {
-    let p = crate::time::pass(ok, ticks, bus);
-    let after = p.bus;
-    let r = step_judged(ok, after, event);
-    let code = or_refused(r.code, 6, p.overrun);
+    let after = pass(ticks, judged);
+    let reply = after.unwrap_or(judged).step(event);
+    let code = or_refused(reply.code, u64::from(Reason::PastLimit), after.is_none());
     if code == 0 {
-        r
+        reply
     } else {
-        bus::refused(bus, code)
+        Reply {
+            code,
+            value: 0,
+            bus: judged.bus,
+        }
     }
 }
 
 // An entry that is refused leaves the clock.
-fn clock_after(clock: Clock, at: u32, code: u64) -> Clock
-    ensures { result ≡ clock_after clock at code }
-{
-    if code == 0 { Clock::At(at) } else { clock }
-}
-
 #[tactic(auto, unfolding(crate::specs::Replay::replayed))]
-pub fn step_of(ok: bool, bus: Bus, clock: Clock, entry: Entry) -> Replayed
-    requires { ok ≡ bus_ok bus }
-    ensures { result ≡ replayed bus clock entry }
+pub fn step_judged(judged: Judged, clock: Clock, entry: Option<Entry>) -> Replayed
+    ensures { result ≡ replayed judged.bus clock entry }
 {
     match entry {
-        Entry::Stamped { at, event } => {
-            let reply = timed(ok, crate::time::since(clock, at), bus, event);
-            let next = clock_after(clock, at, reply.code);
-            Replayed { reply, clock: next }
-        }
-        Entry::Unknown => {
-            let reply = bus::refused(bus, 4);
+        Some(Entry { at, event }) => {
+            let reply = timed(since(clock, at), judged, event);
+            let clock = if reply.code == 0 { Some(at) } else { clock };
             Replayed { reply, clock }
         }
+        None => Replayed {
+            reply: bus::refused_for(judged.bus, Reason::Malformed),
+            clock,
+        },
     }
 }
 
-pub fn step(bus: Bus, clock: Clock, entry: Entry) -> Replayed
+pub fn step_of(ok: bool, bus: Bus, clock: Clock, entry: Option<Entry>) -> Replayed
+    requires { ok ≡ bus_ok bus }
     ensures { result ≡ replayed bus clock entry }
 {
-    step_of(bus::is_ok(bus), bus, clock, entry)
+    step_judged(Judged { ok, bus }, clock, entry)
+}
+
+pub fn step(bus: Bus, clock: Clock, entry: Option<Entry>) -> Replayed
+    ensures { result ≡ replayed bus clock entry }
+{
+    step_judged(Judged::new(bus), clock, entry)
 }

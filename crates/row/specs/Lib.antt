@@ -1,4 +1,3 @@
 pub mod Wait
 pub mod Row
 pub mod Records
-pub mod Exchange

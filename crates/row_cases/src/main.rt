@@ -7,9 +7,11 @@ mod rows;
 mod wait_totals;
 mod waits;
 
-fn main() {
-    waits::run();
-    wait_totals::run();
-    rows::run();
-    row_totals::run();
+use std::io;
+
+fn main(rt: HostRuntime) -> io::Result<()> {
+    waits::run(&rt)?;
+    wait_totals::run(&rt)?;
+    rows::run(&rt)?;
+    row_totals::run(&rt)
 }

@@ -10,7 +10,7 @@ pub fn of(device: Device) -> Record
     ensures { result ≡ record_of device zeros zeros }
 {
     Record {
-        device: device,
+        device,
         lit: [0; 16],
         unlit: [0; 16],
     }

@@ -1,56 +1,40 @@
 // Events on a row.
-ghost use Rattle.std.specs.Prelude.{◌≡◌};
+ghost use Rattle.std.specs.Prelude.{◌≡◌, IfOk};
 ghost use Rattle.device.specs.declared.Phase.TheVariants.{Idle};
 ghost use Rattle.bus.specs.declared.SignalEvent.TheVariants.{Start, Stop, Put};
 ghost use Rattle.row_cases.specs.Chain.{next_of};
 
 use crate::records;
 use bus::SignalEvent;
-use cases::line;
+use cases::line::Answer;
 use chip::Chip;
-use device::Phase;
+use device::{Device, Phase};
 use row::{RowReply, Rowed};
+use std::{fmt, io};
 use totals::Record;
 
-fn phase(phase: Phase) {
+fn name(phase: Phase) -> &'static str {
     match phase {
-        Phase::Idle => line::text(b"idle"),
-        Phase::Address => line::text(b"address"),
-        Phase::Write => line::text(b"write"),
-        Phase::Read => line::text(b"read"),
-        Phase::Ended => line::text(b"ended"),
+        Phase::Idle => "idle",
+        Phase::Address => "address",
+        Phase::Write => "write",
+        Phase::Read => "read",
+        Phase::Ended => "ended",
     }
 }
 
-fn name(event: SignalEvent) {
-    match event {
-        SignalEvent::Start => line::text(b"start"),
-        SignalEvent::Stop => line::text(b"stop"),
-        SignalEvent::Put(byte) => line::named(b"put ", byte),
-        SignalEvent::Get(ack) => line::named(b"get ", ack),
+#[derive(Clone, Copy)]
+struct Named(SignalEvent);
+
+impl fmt::Display for Named {
+    fn fmt<W: fmt::Write>(&self, f: &mut fmt::Formatter<W>) -> fmt::Result {
+        match self.0 {
+            SignalEvent::Start => f.write_str("start"),
+            SignalEvent::Stop => f.write_str("stop"),
+            SignalEvent::Put(byte) => write!(f, "put {byte}"),
+            SignalEvent::Get(ack) => write!(f, "get {ack}"),
+        }
     }
-}
-
-fn handed(n: usize, before: Phase, event: SignalEvent) {
-    line::named(b"row of ", n as u64);
-    line::text(b" in ");
-    phase(before);
-    line::text(b", ");
-    name(event);
-}
-
-fn back(r: Rowed) {
-    let reply = r.reply;
-    let records = r.records;
-    let first = records[0];
-    let device = first.device;
-    let after = reply.phase;
-    line::named(b": code=", reply.code);
-    line::named(b" value=", reply.value);
-    line::text(b" phase=");
-    phase(after);
-    line::named_byte(b" control=", device.control);
-    line::end();
 }
 
 // Nine records with no message.
@@ -62,65 +46,71 @@ pub fn idle(records: [Record; 9]) -> Rowed
         value: 0,
         phase: Phase::Idle,
     };
-    Rowed {
-        records: records,
-        reply: reply,
-    }
+    Rowed { records, reply }
 }
 
-pub fn event(r: Rowed, n: usize, event: SignalEvent) -> Rowed
-    ensures { result ≡ next_of r n event }
+// What is handed in and what comes back, with the control byte of the first record.
+pub fn event(rt: &impl Print, r: Rowed, n: usize, event: SignalEvent) -> io::Result<Rowed>
+    ensures { IfOk result (λ next. next ≡ next_of r n event) }
 {
-    let records = r.records;
-    let reply = r.reply;
-    let before = reply.phase;
-    let next = row::event_of(records, n, before, event);
-    handed(n, before, event);
-    back(next);
-    next
+    let before = r.reply.phase;
+    let next = row::event_of(r.records, n, before, event);
+    let RowReply { code, value, phase } = next.reply;
+    let control = next.records[0].device.control;
+    print!(rt; "row of {n} in {}, {}: ", name(before), Named(event))?;
+    print!(rt; "{} phase={}", Answer { code, value }, name(phase))?;
+    println!(rt; " control={control:02x}")?;
+    Ok(next)
 }
 
 // A message of one byte, which is the address.
-fn message(r: Rowed, n: usize, byte: u64) -> Rowed
-    ensures { result ≡ next_of (next_of (next_of r n Start) n (Put byte)) n Stop }
+fn message(rt: &impl Print, r: Rowed, n: usize, byte: u64) -> io::Result<Rowed>
+    ensures { IfOk result (λ next. next ≡ next_of (next_of (next_of r n Start) n (Put byte)) n Stop) }
 {
-    let r = event(r, n, SignalEvent::Start);
-    let r = event(r, n, SignalEvent::Put(byte));
-    event(r, n, SignalEvent::Stop)
+    let r = event(rt, r, n, SignalEvent::Start)?;
+    let r = event(rt, r, n, SignalEvent::Put(byte))?;
+    event(rt, r, n, SignalEvent::Stop)
 }
 
 // A PCA9635 and a PCA9531, then only PCA9635s; each event on the row that the one before left.
-fn rows(records: [Record; 9]) {
-    let r = event(idle(records), 2, SignalEvent::Put(32));
-    let r = event(r, 2, SignalEvent::Start);
-    let selected = event(r, 2, SignalEvent::Put(32));
-    let r = event(selected, 2, SignalEvent::Put(256));
-    let r = event(r, 2, SignalEvent::Put(129));
-    let r = event(r, 2, SignalEvent::Start);
-    let r = event(r, 2, SignalEvent::Put(33));
-    let r = event(r, 2, SignalEvent::Get(1));
-    let r = event(r, 2, SignalEvent::Get(2));
-    let r = message(event(r, 2, SignalEvent::Stop), 2, 196);
-    let r = message(message(r, 0, 32), 8, 32);
-    let r = event(r, 9, SignalEvent::Start);
-    event(r, 10, SignalEvent::Start);
-    let listening = selected.records;
-    line::text(b"one listening, ");
-    event(idle(listening), 2, SignalEvent::Start);
+fn rows(rt: &impl Print, records: [Record; 9]) -> io::Result<()> {
+    let r = event(rt, idle(records), 2, SignalEvent::Put(32))?;
+    let r = event(rt, r, 2, SignalEvent::Start)?;
+    let selected = event(rt, r, 2, SignalEvent::Put(32))?;
+    let mut r = selected;
+    for next in [
+        SignalEvent::Put(256),
+        SignalEvent::Put(129),
+        SignalEvent::Start,
+        SignalEvent::Put(33),
+        SignalEvent::Get(1),
+        SignalEvent::Get(2),
+        SignalEvent::Stop,
+    ] {
+        r = event(rt, r, 2, next)?;
+    }
+    for (n, byte) in [(2, 196), (0, 32), (8, 32)] {
+        r = message(rt, r, n, byte)?;
+    }
+    for n in [9, 10] {
+        r = event(rt, r, n, SignalEvent::Start)?;
+    }
+    print!(rt; "one listening, ")?;
+    event(rt, idle(selected.records), 2, SignalEvent::Start)?;
+    Ok(())
 }
 
-fn illegal_control(records: [Record; 9]) {
-    let mut device = device::fresh(Chip::Pca9635, 16);
-    device.control = 0x20;
+fn illegal_control(rt: &impl Print, records: [Record; 9]) -> io::Result<()> {
     let mut next = records;
-    next[0] = records::of(device);
-    line::text(b"one illegal, ");
-    event(idle(next), 2, SignalEvent::Start);
+    next[0].device.control = 0x20;
+    print!(rt; "one illegal, ")?;
+    event(rt, idle(next), 2, SignalEvent::Start)?;
+    Ok(())
 }
 
-pub fn run() {
-    let mut records = [records::of(device::fresh(Chip::Pca9635, 16)); 9];
-    records[1] = records::of(device::fresh(Chip::Pca9531, 2));
-    rows(records);
-    illegal_control(records);
+pub fn run(rt: &impl Print) -> io::Result<()> {
+    let mut records = [records::of(Device::fresh(Chip::Pca9635, 16)); 9];
+    records[1] = records::of(Device::fresh(Chip::Pca9531, 2));
+    rows(rt, records)?;
+    illegal_control(rt, records)
 }

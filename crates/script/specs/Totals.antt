@@ -1,17 +1,16 @@
 -- The totals that a recording leaves, as a row of 256 numbers (RULES, Totals).
-use Rattle.std.specs.Prelude.{ℕ, ◌/◌, ◌%◌, ◌&&◌, cond, List, ◌++◌, map, ltb, eqb, length, get_or, drop}
+use Rattle.std.specs.Prelude.{None, ℕ, ◌/◌, ◌%◌, ◌&&◌, cond, List, ◌++◌, map, ltb, eqb, length, get_or, drop}
 use Rattle.basics.specs.Tabulate.{tabulate}
 use Rattle.chip.specs.Kinds.{outputs_of}
 use Rattle.bus.specs.Devices.{has_device, device_at, record_at, empty_bus}
 use Rattle.bus.specs.declared.Bus.{Bus}
 use Rattle.replay.specs.Replay.{replay_bus}
-use Rattle.replay.specs.declared.Clock.TheVariants.{Unset}
 use Rattle.text.specs.Lines.{lines_of}
 use Rattle.script.specs.Parser.{parsed_entry}
 
 -- the bus that a recording leaves, from an empty one
 unfoldable pub recorded_bus : List ℕ → Bus
-recorded_bus log = replay_bus empty_bus Unset (map parsed_entry (lines_of log))
+recorded_bus log = replay_bus empty_bus None (map parsed_entry (lines_of log))
 
 -- number k is of the device at position k / 32 and its output k % 32 / 2: the lit total where k is even, else the unlit one; 0 where there is no such output
 unfoldable pub total_at : Bus → ℕ → ℕ

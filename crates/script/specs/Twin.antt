@@ -1,11 +1,10 @@
 -- The twin as a machine over lines: the reply to a line, the state after it, and the line that answers it.
-use Rattle.std.specs.Prelude.{ℕ, ◌+◌, cond, List, ltb}
+use Rattle.std.specs.Prelude.{None, ℕ, ◌+◌, cond, List, ltb}
 use Rattle.bus.specs.Devices.{empty_bus}
 use Rattle.bus.specs.Events.{request_reply}
 use Rattle.bus.specs.declared.Bus.{Bus}
 use Rattle.bus.specs.declared.Reply.{Reply}
 use Rattle.replay.specs.Replay.{replayed}
-use Rattle.replay.specs.declared.Clock.TheVariants.{Unset}
 use Rattle.text.specs.Run.{Machine}
 use Rattle.script.specs.Parser.{parsed, parsed_entry}
 use Rattle.script.specs.Answer.{answer_line}
@@ -31,7 +30,7 @@ abbrev pub fresh_state : State
 fresh_state = first_state Plain
 
 abbrev pub fresh_replay : State
-fresh_replay = first_state (Stamped Unset)
+fresh_replay = first_state (Stamped None)
 
 -- one more, up to the largest u64
 abbrev pub next_number : ℕ → ℕ

@@ -1,13 +1,14 @@
 // An event line read back as its event.
-ghost use Rattle.std.specs.Prelude.{◌≡◌};
-ghost use Rattle.text.specs.Read.{rest_at};
-ghost use Rattle.script.specs.Parser.{shape_by, shape_of, numbers_of, scanned, event_of, parsed};
+ghost use Rattle.std.specs.Prelude.{◌≡◌, Some, map, length};
+ghost use Rattle.std.specs.Option.{option_map};
+ghost use Rattle.text.specs.Read.{rest};
+ghost use Rattle.script.specs.Parser.{shape_by, shape_of, fields_of, scanned, event_of, parsed};
 
-use bus::{Change, Event, Question, Request, SignalEvent};
-use text::{Field, at_end, number_of, read_field, read_key, start};
+use bus::{Change, Event, Question, SignalEvent};
+use text::{at_end, byte_at, number_of, read_field, start};
 
 // The eleven shapes.
-#[derive(Clone, Copy)]
+#[derive(Clone, Copy, Debug, PartialEq, Eq)]
 pub enum Shape {
     Add,
     Start,
@@ -26,15 +27,17 @@ pub enum Shape {
 fn by_letters(x: u8, y: u8, z: u8) -> Shape
     ensures { result ≡ shape_by x y z }
 {
-    match x {
-        b'a' => Shape::Add,
-        b's' => if z == b'a' { Shape::Start } else { Shape::Stop },
-        b'p' => if y == b'u' { Shape::Put } else { Shape::Pin },
-        b'g' => Shape::Get,
-        b'w' => Shape::Wait,
-        b'o' => Shape::Oe,
-        b'e' => Shape::Ext,
-        b'r' => Shape::Reset,
+    match (x, y, z) {
+        (b'a', _, _) => Shape::Add,
+        (b's', _, b'a') => Shape::Start,
+        (b's', _, _) => Shape::Stop,
+        (b'p', b'u', _) => Shape::Put,
+        (b'p', _, _) => Shape::Pin,
+        (b'g', _, _) => Shape::Get,
+        (b'w', _, _) => Shape::Wait,
+        (b'o', _, _) => Shape::Oe,
+        (b'e', _, _) => Shape::Ext,
+        (b'r', _, _) => Shape::Reset,
         _ => Shape::Lit,
     }
 }
@@ -42,125 +45,85 @@ fn by_letters(x: u8, y: u8, z: u8) -> Shape
 fn shape_of(line: &[u8]) -> Shape
     ensures { result ≡ shape_of line.now }
 {
-    by_letters(
-        text::byte_at(line, 3),
-        text::byte_at(line, 4),
-        text::byte_at(line, 5),
-    )
+    by_letters(byte_at(line, 3), byte_at(line, 4), byte_at(line, 5))
 }
 
-// The numbers of a line, the latest last, and whether it is read to its end.
-#[derive(Clone, Copy)]
-pub struct Numbers {
-    pub whole: bool,
-    pub a: u64,
-    pub b: u64,
-    pub c: u64,
-}
-
-fn gather(line: &[u8], x: Field, y: Field, z: Field) -> Numbers
-    ensures { result ≡ numbers_of (rest_at line.now x) (rest_at line.now y) (rest_at line.now z) }
+// The numbers of a line of fields, each a key and a number, with nothing behind the last.
+fn fields<const N: usize>(line: &[u8], keys: &[&[u8]]) -> Option<[u64; N]>
+    requires { length keys.now ≡ N }
+    ensures { result ≡ fields_of (map (λ k. k.now) keys.now) (Some (rest line.now 0)) }
 {
-    Numbers {
-        whole: at_end(line, z),
-        a: number_of(x),
-        b: number_of(y),
-        c: number_of(z),
+    let mut field = start();
+    let mut numbers = [0; N];
+    for (i, key) in keys.iter().enumerate() {
+        field = read_field(line, field, key);
+        numbers[i] = number_of(field);
     }
+    at_end(line, field).then_some(numbers)
 }
 
-// The line read as that shape.
-#[tactic(auto, unfolding(crate::specs::Parser::none_of, crate::specs::Parser::one_of, crate::specs::Parser::two_of, crate::specs::Parser::three_of))]
-fn scan(line: &[u8], shape: Shape) -> Numbers
-    ensures { result ≡ scanned shape line.now }
+// The event of the line read as that shape.
+fn read_as(line: &[u8], shape: Shape) -> Option<Event>
+    ensures { result ≡ option_map (event_of shape) (scanned shape line.now) }
 {
-    let s = start();
     match shape {
         Shape::Add => {
-            let chip = read_field(line, s, b"ev=add chip=");
-            gather(line, s, chip, read_field(line, chip, b" addr="))
+            let [chip, addr] = fields::<2>(line, &[b"ev=add chip=", b" addr="])?;
+            Some(Event::Add { chip, addr })
         }
-        Shape::Start => gather(line, s, s, read_key(line, s, b"ev=start")),
-        Shape::Put => gather(line, s, s, read_field(line, s, b"ev=put byte=")),
-        Shape::Get => gather(line, s, s, read_field(line, s, b"ev=get ack=")),
-        Shape::Stop => gather(line, s, s, read_key(line, s, b"ev=stop")),
+        Shape::Start => {
+            let whole = line == b"ev=start".as_slice();
+            whole.then_some(Event::Signal(SignalEvent::Start))
+        }
+        Shape::Put => {
+            let [byte] = fields::<1>(line, &[b"ev=put byte="])?;
+            Some(Event::Signal(SignalEvent::Put(byte)))
+        }
+        Shape::Get => {
+            let [ack] = fields::<1>(line, &[b"ev=get ack="])?;
+            Some(Event::Signal(SignalEvent::Get(ack)))
+        }
+        Shape::Stop => {
+            let whole = line == b"ev=stop".as_slice();
+            whole.then_some(Event::Signal(SignalEvent::Stop))
+        }
         Shape::Wait => {
-            let dev = read_field(line, s, b"ev=wait dev=");
-            gather(line, s, dev, read_field(line, dev, b" ticks="))
+            let [dev, ticks] = fields::<2>(line, &[b"ev=wait dev=", b" ticks="])?;
+            let change = Change::Wait(ticks);
+            Some(Event::Change { dev, change })
         }
         Shape::Oe => {
-            let dev = read_field(line, s, b"ev=oe dev=");
-            gather(line, s, dev, read_field(line, dev, b" level="))
+            let [dev, level] = fields::<2>(line, &[b"ev=oe dev=", b" level="])?;
+            let change = Change::Oe(level);
+            Some(Event::Change { dev, change })
         }
         Shape::Ext => {
-            let dev = read_field(line, s, b"ev=ext dev=");
-            gather(line, s, dev, read_field(line, dev, b" level="))
+            let [dev, level] = fields::<2>(line, &[b"ev=ext dev=", b" level="])?;
+            let change = Change::Ext(level);
+            Some(Event::Change { dev, change })
         }
-        Shape::Reset => gather(line, s, s, read_field(line, s, b"ev=reset dev=")),
+        Shape::Reset => {
+            let [dev] = fields::<1>(line, &[b"ev=reset dev="])?;
+            let change = Change::Reset;
+            Some(Event::Change { dev, change })
+        }
         Shape::Lit => {
-            let dev = read_field(line, s, b"ev=lit dev=");
-            let out = read_field(line, dev, b" out=");
-            gather(line, dev, out, read_field(line, out, b" ticks="))
+            let [dev, out, ticks] = fields::<3>(line, &[b"ev=lit dev=", b" out=", b" ticks="])?;
+            let question = Question::Lit { out, ticks };
+            Some(Event::Ask { dev, question })
         }
         Shape::Pin => {
-            let dev = read_field(line, s, b"ev=pin dev=");
-            gather(line, s, dev, read_field(line, dev, b" out="))
+            let [dev, out] = fields::<2>(line, &[b"ev=pin dev=", b" out="])?;
+            let question = Question::Pin(out);
+            Some(Event::Ask { dev, question })
         }
-    }
-}
-
-fn event_of(shape: Shape, n: Numbers) -> Event
-    ensures { result ≡ event_of shape n }
-{
-    match shape {
-        Shape::Add => Event::Add {
-            chip: n.b,
-            addr: n.c,
-        },
-        Shape::Start => Event::Signal(SignalEvent::Start),
-        Shape::Put => Event::Signal(SignalEvent::Put(n.c)),
-        Shape::Get => Event::Signal(SignalEvent::Get(n.c)),
-        Shape::Stop => Event::Signal(SignalEvent::Stop),
-        Shape::Wait => Event::Change {
-            dev: n.b,
-            change: Change::Wait(n.c),
-        },
-        Shape::Oe => Event::Change {
-            dev: n.b,
-            change: Change::Oe(n.c),
-        },
-        Shape::Ext => Event::Change {
-            dev: n.b,
-            change: Change::Ext(n.c),
-        },
-        Shape::Reset => Event::Change {
-            dev: n.c,
-            change: Change::Reset,
-        },
-        Shape::Lit => Event::Ask {
-            dev: n.a,
-            question: Question::Lit {
-                out: n.b,
-                ticks: n.c,
-            },
-        },
-        Shape::Pin => Event::Ask {
-            dev: n.b,
-            question: Question::Pin(n.c),
-        },
     }
 }
 
 // The event whose line this is, if there is one.
 #[tactic(auto, unfolding(crate::specs::Parser::parsed))]
-pub fn parse(line: &[u8]) -> Request
+pub fn parse(line: &[u8]) -> Option<Event>
     ensures { result ≡ parsed line.now }
 {
-    let shape = shape_of(line);
-    let n = scan(line, shape);
-    if n.whole {
-        Request::Known(event_of(shape, n))
-    } else {
-        Request::Unknown
-    }
+    read_as(line, shape_of(line))
 }

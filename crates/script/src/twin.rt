@@ -1,22 +1,22 @@
 // From the bytes of some lines to the bytes of their answers.
 ghost use Rattle.std.specs.Prelude.{◌≡◌};
-ghost use Rattle.bus.specs.Devices.{bus_ok};
+ghost use Rattle.refusals.specs.Reasons.{code_in, value_in};
 ghost use Rattle.text.specs.Read.{rest_at};
 ghost use Rattle.text.specs.Run.{Runs};
 ghost use Rattle.script.specs.Twin.{first_state, fresh_state, fresh_replay, next_number, reply_to, twin};
 ghost use Rattle.script.specs.Heard.{heard_as, head_of, heard_by};
 
-use crate::answer::write_answer;
+use crate::answer::{ROOM, write_answer};
 use crate::parser::parse;
 use crate::stamped::{entry_by, parse_entry, parse_rest, stamp_of};
-use bus::proved_callers::{asked, request_judged};
-use bus::{Asked, Bus, Question, Reply, Request};
-use replay::proved_callers::step_of;
-use replay::{Clock, Entry};
+use bus::proved_callers::asked;
+use bus::{Asked, Bus, Event, Judged, Reply};
+use refusals::Reason;
+use replay::{Clock, Entry, step_judged};
 use text::{Field, line_end, number_of, start};
 
 // What the lines of a log are: events, or events with a stamp before each, and then the clock.
-#[derive(Clone, Copy)]
+#[derive(Clone, Copy, Debug, PartialEq, Eq)]
 pub enum Form {
     Plain,
     Stamped(Clock),
@@ -39,21 +39,20 @@ pub struct Ran {
 }
 
 // What a line comes to: a question for a device that stands on the bus, any other request, or an entry of a recording.
-#[derive(Clone, Copy)]
+#[derive(Clone, Copy, Debug, PartialEq, Eq)]
 pub enum Heard {
-    Question { dev: u64, question: Question },
-    Request(Request),
-    Entry { clock: Clock, entry: Entry },
+    Question(Asked),
+    Request(Option<Event>),
+    Entry { clock: Clock, entry: Option<Entry> },
 }
 
 // Before the first line: no line is answered, and the bus is empty.
 fn first_of(form: Form) -> State
     ensures { result ≡ first_state form }
 {
-    let none = bus::empty();
     State {
         lines: 0,
-        bus: none,
+        bus: bus::empty(),
         form,
     }
 }
@@ -67,43 +66,38 @@ pub fn fresh() -> State
 pub fn fresh_replay() -> State
     ensures { result ≡ fresh_replay }
 {
-    first_of(Form::Stamped(Clock::Unset))
+    first_of(Form::Stamped(None))
 }
 
 // A line's number is one more than that of the line before; no run gets to the largest u64, where it stays.
 pub fn next_number(n: u64) -> u64
     ensures { result ≡ next_number n }
 {
-    if n < u64::MAX { n + 1 } else { n }
+    n.saturating_add(1)
 }
 
-// What a line is answered with. ok says whether the bus is well formed.
+// What a line is answered with.
 #[tactic(auto, unfolding(crate::specs::Twin::reply_to))]
-pub fn reply_to(ok: bool, bus: Bus, form: Form, line: &[u8]) -> Reply
-    requires { ok ≡ bus_ok bus }
-    ensures { result ≡ reply_to bus form line.now }
+pub fn reply_to(judged: Judged, form: Form, line: &[u8]) -> Reply
+    ensures { result ≡ reply_to judged.bus form line.now }
 {
     match form {
-        Form::Plain => request_judged(ok, bus, parse(line)),
-        Form::Stamped(clock) => {
-            let r = step_of(ok, bus, clock, parse_entry(line));
-            let reply = r.reply;
-            reply
-        }
+        Form::Plain => judged.request(parse(line)),
+        Form::Stamped(clock) => step_judged(judged, clock, parse_entry(line)).reply,
     }
 }
 
-fn heard_as(asked: Asked, request: Request) -> Heard
+fn heard_as(asked: Option<Asked>, request: Option<Event>) -> Heard
     ensures { result ≡ heard_as asked request }
 {
     match asked {
-        Asked::Device { dev, question } => Heard::Question { dev, question },
-        Asked::Other => Heard::Request(request),
+        Some(asked) => Heard::Question(asked),
+        None => Heard::Request(request),
     }
 }
 
 // Where the event's line begins, by the form of the lines, with the stamp before it.
-fn head_of(form: Form, line: &[u8]) -> Field
+fn head_of(form: Form, line: &[u8]) -> Option<Field>
     ensures { rest_at line.now result ≡ head_of form line.now }
 {
     match form {
@@ -121,18 +115,21 @@ fn hear(ok: bool, count: u8, form: Form, line: &[u8]) -> Heard
     let request = parse_rest(line, head);
     match form {
         Form::Plain => heard_as(asked(ok, count, request), request),
-        Form::Stamped(clock) => {
-            let entry = entry_by(number_of(head), request);
-            Heard::Entry { clock, entry }
-        }
+        Form::Stamped(clock) => Heard::Entry {
+            clock,
+            entry: entry_by(number_of(head), request),
+        },
     }
 }
 
-fn ran_to(read: usize, wrote: usize, lines: u64, bus: Bus, form: Form) -> Ran
-    ensures { result ≡ record { read = read; wrote = wrote; state = record { lines = lines; bus = bus; form = form } } }
+// The code and the value of an answer.
+fn code_and_value(answer: Result<u64, Reason>) -> (u64, u64)
+    ensures { result ≡ (code_in answer, value_in answer) }
 {
-    let state = State { lines, bus, form };
-    Ran { read, wrote, state }
+    match answer {
+        Ok(value) => (0, value),
+        Err(reason) => (u64::from(reason), 0),
+    }
 }
 
 // Answers the complete lines of input, one after the other, while out has room for an answer. The bus is judged once: no line changes
@@ -141,37 +138,44 @@ pub fn run(first: State, input: &[u8], out: &mut [u8]) -> Ran
     ensures { Runs twin first input.now out.old out.new result.read result.wrote result.state }
 {
     let mut lines = first.lines;
-    let mut bus = first.bus;
+    let mut judged = Judged::new(first.bus);
     let mut form = first.form;
-    let mut from: usize = 0;
-    let mut at: usize = 0;
-    let ok = bus::is_ok(bus);
-    while 76 <= out.len() - at {
-        let end = line_end(input, from);
+    let mut read = 0;
+    let mut wrote = 0;
+    // no `for` over the lines: where the room ends, the rest of the input stays for the next run
+    while ROOM <= out.len() - wrote {
+        let end = line_end(input, read);
         if input.len() <= end {
-            return ran_to(from, at, lines, bus, form);
+            break;
         }
         lines = next_number(lines);
-        match hear(ok, bus.count, form, &input[from..end]) {
-            Heard::Question { dev, question } => {
-                let a = bus::answer_of(bus.devices[dev as usize], question);
-                at = write_answer(lines, a.code, a.value, out, at);
+        match hear(judged.ok, judged.bus.count, form, &input[read..end]) {
+            Heard::Question(Asked { dev, question }) => {
+                let answer = bus::answer_of(judged.bus.devices[dev as usize], question);
+                let (code, value) = code_and_value(answer);
+                wrote = write_answer(lines, code, value, out, wrote);
             }
             Heard::Request(request) => {
-                let r = request_judged(ok, bus, request);
-                at = write_answer(lines, r.code, r.value, out, at);
-                bus = r.bus;
+                let r = judged.request(request);
+                wrote = write_answer(lines, r.code, r.value, out, wrote);
+                judged.bus = r.bus;
             }
             Heard::Entry { clock, entry } => {
-                let r = step_of(ok, bus, clock, entry);
-                let reply = r.reply;
-                at = write_answer(lines, reply.code, reply.value, out, at);
-                bus = reply.bus;
-                let next = r.clock;
-                form = Form::Stamped(next);
+                let r = step_judged(judged, clock, entry);
+                wrote = write_answer(lines, r.reply.code, r.reply.value, out, wrote);
+                judged.bus = r.reply.bus;
+                form = Form::Stamped(r.clock);
             }
         }
-        from = end + 1;
+        read = end + 1;
     }
-    ran_to(from, at, lines, bus, form)
+    Ran {
+        read,
+        wrote,
+        state: State {
+            lines,
+            bus: judged.bus,
+            form,
+        },
+    }
 }

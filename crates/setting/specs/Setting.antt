@@ -1,12 +1,11 @@
 -- A setting, the bytes of its text, and what a text that is none begins with (RULES, Settings).
-use Rattle.std.specs.Prelude.{ℕ, suc, ◌≡◌, Bool, true, false, ◌&&◌, List, [], ◌∷◌, ◌++◌, ltb, eqb, length, take, drop}
+use Rattle.std.specs.Prelude.{None, ℕ, suc, ◌≡◌, Bool, true, false, ◌&&◌, List, [], ◌∷◌, ◌++◌, ltb, eqb, length, take, drop}
 use Prim.Native.String.{String}
 use Rattle.basics.specs.First.{all}
 use Rattle.chip.specs.Kinds.{number_of, chip_numbered}
 use Rattle.chip.specs.Registers.{first_writable, writables}
 use Rattle.chip.specs.Addresses.{address_allowed}
 use Rattle.chip.specs.declared.Chip.{Chip}
-use Rattle.chip.specs.declared.Lookup.TheVariants.{Unknown}
 use Rattle.text.specs.Text.{text, entry, Short}
 use Rattle.setting.specs.declared.Setting.{Setting}
 
@@ -48,7 +47,7 @@ pub record UnknownKind (t : List ℕ) : Type 0 where
   pub behind : List ℕ
   pub short : Short number
   pub begins : t ≡ line "chip=" number behind
-  pub unknown : chip_numbered number ≡ Unknown
+  pub unknown : chip_numbered number ≡ None
 
 -- a text that begins with the line of a kind and that of an address which the kind cannot have
 pub record BarredAddress (t : List ℕ) : Type 0 where

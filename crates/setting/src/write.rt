@@ -1,5 +1,5 @@
 // The text of a setting written into a lent buffer.
-ghost use Rattle.std.specs.Prelude.{[], ◌++◌, ◌+◌, ◌*◌, ◌≤◌, ◌<◌, length, take};
+ghost use Rattle.std.specs.Prelude.{[], ◌++◌, ◌+◌, ◌*◌, ◌≤◌, ◌<◌, length};
 ghost use Rattle.text.specs.Text.{text, decimal};
 ghost use Rattle.text.specs.Write.{Written};
 ghost use Rattle.setting.specs.Setting.{register_line, register_lines, setting_text};
@@ -25,20 +25,18 @@ fn write_register(register: u64, value: u8, out: &mut [u8], at: usize) -> usize
 {
     let a = write_text(b"r", out, at);
     let b = write_decimal(register, out, a);
-    write_line(b"=", value as u64, out, b)
+    write_line(b"=", u64::from(value), out, b)
 }
 
-// A line for each of the first values.
+// A line for each of the values, from the first register on.
 #[tactic(auto, unfolding(crate::specs::Setting::register_lines))]
-fn write_registers(first: u64, count: usize, values: [u8; 28], out: &mut [u8], at: usize) -> usize
-    requires { (first + count ≤ 100) × (count ≤ 28) × (at + 8 * count + 25 ≤ length out.old) }
-    ensures { Written out.old at (register_lines first (take count values)) out.new result }
+fn write_registers(first: u64, values: &[u8], out: &mut [u8], at: usize) -> usize
+    requires { (first + length values.now ≤ 100) × (at + 8 * length values.now + 25 ≤ length out.old) }
+    ensures { Written out.old at (register_lines first values.now) out.new result }
 {
     let mut end = at;
-    let mut i: usize = 0;
-    while i < count {
-        end = write_register(first + i as u64, values[i], out, end);
-        i += 1;
+    for (i, &value) in values.iter().enumerate() {
+        end = write_register(first + i as u64, value, out, end);
     }
     end
 }
@@ -50,9 +48,8 @@ pub fn write_setting(setting: Setting, out: &mut [u8]) -> usize
 {
     let chip = setting.chip;
     let values = setting.values;
-    let first = chip::first_writable(chip) as u64;
-    let count = chip::writables(chip) as usize;
-    let a = write_line(b"chip=", chip::number_of(chip), out, 0);
-    let b = write_line(b"addr=", setting.addr as u64, out, a);
-    write_registers(first, count, values, out, b)
+    let a = write_line(b"chip=", u64::from(chip), out, 0);
+    let b = write_line(b"addr=", u64::from(setting.addr), out, a);
+    let first = u64::from(chip.first_writable());
+    write_registers(first, &values[..usize::from(chip.writables())], out, b)
 }

@@ -1,15 +1,17 @@
 -- Promises on the store: the number of a refusal and what it leaves, the shape of a store, what making room keeps, and what any sequence of calls puts in, keeps and reads.
 -- Where a statement is over a storage `st`, it holds of the bytes of a store and of a list of versions alike.
-use Rattle.std.specs.Prelude.{ℕ, ◌+◌, ◌^◌, ◌≤◌, ◌<◌, ◌≡◌, true, false, cond, List, [], ◌∷◌, ◌++◌, leb, length, drop}
+use Rattle.std.specs.Prelude.{ℕ, ◌+◌, ◌^◌, ◌≤◌, ◌<◌, ◌≡◌, true, false, cond, List, [], ◌∷◌, ◌++◌, leb, length, drop, None}
 use Rattle.std.proofs.Math.Path.{refl}
-use Rattle.std.proofs.Common.{ap, ◌∙◌, arith}
+use Rattle.std.proofs.Common.{sym, ap, ◌∙◌, arith}
 use Rattle.basics.specs.Tabulate.{tabulate}
 use Rattle.basics.specs.laws.Parts.{part_other}
 use Rattle.refusals.specs.Refusals.{least, code_of}
 use Rattle.refusals.specs.laws.Refusals.{code_both, Exact}
 use Rattle.refusals.specs.laws.Outcome.{outcome_code, outcome_exact, outcome_refused}
+use Rattle.refusals.specs.Reasons.{code_in}
 use Rattle.setting.specs.Reader.{text_refusals, reading_of}
-use Rattle.store.specs.Saved.{Saved, newest, nothing, is_version, found, is_held}
+use Rattle.setting.specs.Promises.{reading_number}
+use Rattle.store.specs.Saved.{Saved, newest, is_version, found, is_held}
 use Rattle.store.specs.Kept.{is_kept}
 use Rattle.store.specs.Layout.{place, store_ok, saved_of, free_place, with_saved, is_freed, free_part, fresh_store}
 use Rattle.store.specs.Calls.{Storage, bytes, refused_with, done_with, next, put_refusals, save_refusals, save_reply, return_refusals, return_reply, read_refusals, read_reply, keep_refusals, keep_reply, fresh_refusals, fresh_reply}
@@ -29,11 +31,12 @@ module _ {S : Type 0} (st : Storage S) (s : S) (table : ℕ) where
   save_exact text = outcome_exact (save_refusals st s table text) (refused_with s) _ (λ r. r.code) (λ k. refl) refl
 
   -- the least of the text's own number and those of one version more
-  pub save_number : (text : List ℕ) → (save_reply st s table text).code ≡ least (reading_of text).code (code_of (put_refusals st s table (leb 64 table)))
+  pub save_number : (text : List ℕ) → (save_reply st s table text).code ≡ least (code_in (reading_of text)) (code_of (put_refusals st s table (leb 64 table)))
   unfolding save_reply save_refusals
   save_number text =
       outcome_code (save_refusals st s table text) (refused_with s) _ (λ r. r.code) (λ k. refl) refl
       ∙ code_both (text_refusals text) (put_refusals st s table (leb 64 table))
+      ∙ ap (λ (k : ℕ). least k (code_of (put_refusals st s table (leb 64 table)))) (sym (reading_number text))
 
   pub return_exact : (version : ℕ) → Exact (return_refusals st s table version) (return_reply st s table version).code
   unfolding return_reply
@@ -96,7 +99,7 @@ module _ (store list : List ℕ) where
 
   module _ (done : (keep_reply bytes store list).code ≡ 0) where
     -- what is found then is what is kept: the newest of each table and what is listed
-    pub keep_found : (table version : ℕ) → found table version (saved_of (keep_reply bytes store list).state) ≡ cond (is_kept list (saved_of store) table version) (found table version (saved_of store)) nothing
+    pub keep_found : (table version : ℕ) → found table version (saved_of (keep_reply bytes store list).state) ≡ cond (is_kept list (saved_of store) table version) (found table version (saved_of store)) None
     keep_found = found_kept store list done
 
     -- the value is the number of versions gone

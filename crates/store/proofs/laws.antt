@@ -10,3 +10,4 @@ pub mod History
 pub mod Listed
 pub mod Fresh
 pub mod Readings
+pub mod Places

@@ -1,10 +1,12 @@
 -- The calls on a store: the refusals of each, and what it comes to (RULES, Settings).
-use Rattle.std.specs.Prelude.{ℕ, ◌+◌, ◌%◌, ◌^◌, Bool, not, ◌||◌, List, [], ◌∷◌, ◌++◌, leb, ltb, eqb, length, drop}
+use Rattle.std.specs.Prelude.{ℕ, ◌+◌, ◌%◌, ◌^◌, Bool, not, ◌||◌, List, [], ◌∷◌, ◌++◌, leb, ltb, eqb, length, drop, None, Option, Some, is_none, Result}
 use Rattle.refusals.specs.Refusals.{Refusal, refuse, outcome}
+use Rattle.refusals.specs.Reasons.{code_in, value_in}
+use Rattle.refusals.specs.declared.Reason.{Reason}
 use Rattle.setting.specs.Reader.{text_refusals, setting_of}
-use Rattle.store.specs.Saved.{Saved, saved, newest, Found, nothing, just, is_nothing, text_of, found}
+use Rattle.setting.specs.declared.Setting.{Setting}
+use Rattle.store.specs.Saved.{Saved, saved, newest, text_of, found}
 use Rattle.store.specs.Kept.{all_held, is_kept, freed_by}
-use Rattle.store.specs.declared.calls.Answer.{Answer}
 use Rattle.store.specs.Layout.{store_size, store_ok, saved_of, with_saved, with_only, fresh_store}
 
 -- code, value, and what is left of what was lent
@@ -24,8 +26,8 @@ done_with v s = record { code = 0; value = v; state = s }
 abbrev pub replied : ℕ → ℕ → List ℕ → Reply (List ℕ)
 replied code value lent = record { code = code; value = value; state = lent }
 
-abbrev pub answered : Answer → List ℕ → Reply (List ℕ)
-answered a lent = replied a.code a.value lent
+abbrev pub answered : Result ℕ Reason → List ℕ → Reply (List ℕ)
+answered r lent = replied (code_in r) (value_in r) lent
 
 -- over any state that holds versions: whether it is of the right shape, what it holds, it with one version more, and it with only those that a test keeps
 pub record Storage (S : Type 0) : Type 0 where
@@ -58,12 +60,12 @@ module _ {S : Type 0} (st : Storage S) where
       (done_with (next s table) (st.with (saved table (next s table) (setting_of text)) s))
 
   -- and so does an earlier version
-  abbrev pub again : S → ℕ → Found → S
-  again s table nothing = s
-  again s table (just setting) = st.with (saved table (next s table) setting) s
+  abbrev pub again : S → ℕ → Option Setting → S
+  again s table None = s
+  again s table (Some setting) = st.with (saved table (next s table) setting) s
 
   unfoldable pub return_refusals : S → ℕ → ℕ → List Refusal
-  return_refusals s table version = put_refusals s table (is_nothing (found table version (st.holds s)))
+  return_refusals s table version = put_refusals s table (is_none (found table version (st.holds s)))
 
   unfoldable pub return_reply : S → ℕ → ℕ → Reply S
   return_reply s table version =
@@ -75,7 +77,7 @@ module _ {S : Type 0} (st : Storage S) where
   read_refusals s table version buffer =
       refuse 4 (not (st.sound s))
       ∷ refuse 8 (ltb (length buffer) (length (text_of (found table version (st.holds s)))))
-      ∷ refuse 11 (is_nothing (found table version (st.holds s)))
+      ∷ refuse 11 (is_none (found table version (st.holds s)))
       ∷ []
 
   unfoldable pub read_reply : S → ℕ → ℕ → List ℕ → Reply (List ℕ)
@@ -100,6 +102,10 @@ module _ {S : Type 0} (st : Storage S) where
 
 abbrev pub bytes : Storage (List ℕ)
 bytes = record { sound = store_ok; holds = saved_of; with = with_saved; keep = with_only }
+
+-- 4 a wrong shape
+abbrev pub shape_refusals : List ℕ → List Refusal
+shape_refusals store = refuse 4 (not (store_ok store)) ∷ []
 
 -- a buffer of the right size becomes a store that holds nothing
 abbrev pub fresh_refusals : List ℕ → List Refusal

@@ -1,7 +1,7 @@
 -- What calls put into a store and take out of it, by the calls alone: a list of versions, and no bytes.
-use Rattle.std.specs.Prelude.{ℕ, ◌+◌, ◌≤◌, ◌≡◌, Bool, true, not, ◌&&◌, ◌||◌, cond, eqb, List, [], ◌∷◌, ◌++◌}
+use Rattle.std.specs.Prelude.{ℕ, ◌+◌, ◌≤◌, ◌≡◌, Bool, true, not, ◌&&◌, ◌||◌, cond, eqb, List, [], ◌∷◌, ◌++◌, None}
 use Rattle.basics.specs.Tabulate.{tabulate}
-use Rattle.store.specs.Saved.{Saved, newest, nothing, found, only}
+use Rattle.store.specs.Saved.{Saved, newest, found, only}
 use Rattle.store.specs.Kept.{is_kept}
 use Rattle.store.specs.Layout.{store_ok, saved_of}
 use Rattle.store.specs.Calls.{Reply, Storage, save_reply, return_reply, keep_reply}
@@ -74,7 +74,7 @@ pub record Holds (store : List ℕ) (l : List Saved) : Type 0 where
 pub record Follows (keeps : ℕ → ℕ → Bool) (l m : List Saved) : Type 0 where
   pub more : List Saved
   pub follows : m ≡ only keeps l ++ more
-  pub above : (table version : ℕ) → version ≤ newest table l → found table version more ≡ nothing
+  pub above : (table version : ℕ) → version ≤ newest table l → found table version more ≡ None
 
 -- the numbers behind one, up to another, each once and in order
 pub record InOrder (from to : ℕ) (numbers : List ℕ) : Type 0 where

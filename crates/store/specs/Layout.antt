@@ -1,10 +1,11 @@
 -- The bytes of a store: 256 places of 40 bytes, each free or with one version (docs/STORE.md).
 use Rattle.std.specs.Prelude.{ℕ, zero, suc, ◌+◌, ◌*◌, ◌/◌, ◌%◌, ◌^◌, Bool, not, ◌&&◌, cond, List, [], ◌∷◌, ◌++◌, leb, ltb, eqb, length, get_or, take, drop, replicate}
+use Rattle.std.specs.Prelude.{Option, None, Some}
+use Rattle.std.specs.Simd.{first_chunks}
 use Rattle.basics.specs.Below.{all_below, first_below}
 use Rattle.basics.specs.First.{all}
 use Rattle.basics.specs.Parts.{part, with_part}
-use Rattle.chip.specs.declared.Chip.{Chip}
-use Rattle.chip.specs.declared.Chip.TheVariants.{Pca9635, Pca9634, Pca9531, Pca9551}
+use Rattle.chip.specs.Kinds.{kind_of, chip_of}
 use Rattle.setting.specs.Setting.{setting_ok}
 use Rattle.setting.specs.declared.Setting.{Setting}
 use Rattle.store.specs.Saved.{Saved, saved}
@@ -12,7 +13,7 @@ use Rattle.store.specs.Saved.{Saved, saved}
 abbrev pub store_size : ℕ
 store_size = 10240
 
--- ---- numbers and chips in bytes
+-- ---- numbers in bytes
 
 -- the number that bytes say, the lowest first, and the n lowest bytes of a number
 unfoldable pub number : List ℕ → ℕ
@@ -22,16 +23,6 @@ number (b ∷ l) = b + 256 * number l
 unfoldable pub digits : ℕ → ℕ → List ℕ
 digits zero x = []
 digits (suc n) x = x % 256 ∷ digits n (x / 256)
-
--- the byte of a kind, and the kind of a byte
-abbrev pub kind_of : Chip → ℕ
-kind_of Pca9635 = 0
-kind_of Pca9634 = 1
-kind_of Pca9531 = 2
-kind_of Pca9551 = 3
-
-abbrev pub chip_of : ℕ → Chip
-chip_of kind = cond (eqb kind 0) Pca9635 (cond (eqb kind 1) Pca9634 (cond (eqb kind 2) Pca9531 Pca9551))
 
 -- ---- a place
 
@@ -65,6 +56,10 @@ place_ok p = cond (eqb (version_in p) 0) (all (λ x. eqb x 0) p) (held_ok p)
 abbrev pub place : ℕ → List ℕ → List ℕ
 place i store = part 40 i store
 
+-- the 256 places of a store
+unfoldable pub places_of : List ℕ → List (List ℕ)
+places_of store = first_chunks 40 256 store
+
 -- a store of the right shape
 unfoldable pub store_ok : List ℕ → Bool
 store_ok store = eqb (length store) store_size && all_below 256 (λ i. place_ok (place i store))
@@ -83,6 +78,9 @@ saved_of store = saved_below 256 store
 -- the first free place, 256 where there is none
 abbrev pub free_place : List ℕ → ℕ
 free_place store = first_below 256 (λ i. eqb (version_in (place i store)) 0)
+
+abbrev pub first_free : List ℕ → Option ℕ
+first_free store = cond (ltb (free_place store) 256) (Some (free_place store)) None
 
 -- a store with one version more, in the first free place; every other byte stays
 abbrev pub with_saved : Saved → List ℕ → List ℕ

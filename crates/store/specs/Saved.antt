@@ -1,5 +1,5 @@
 -- What a store holds: versions of tables' settings (RULES, Settings).
-use Rattle.std.specs.Prelude.{ℕ, max, Bool, true, false, not, ◌&&◌, cond, List, [], ◌∷◌, eqb}
+use Rattle.std.specs.Prelude.{ℕ, max, Bool, ◌&&◌, cond, List, [], ◌∷◌, eqb, Option, None, Some, is_some}
 use Rattle.setting.specs.Setting.{setting_text}
 use Rattle.setting.specs.declared.Setting.{Setting}
 
@@ -17,30 +17,21 @@ unfoldable pub newest : ℕ → List Saved → ℕ
 newest table [] = 0
 newest table (e ∷ l) = max (cond (eqb e.table table) e.version 0) (newest table l)
 
--- a setting, or none
-pub data Found : Type 0 where
-  nothing : Found
-  just : Setting → Found
-
-abbrev pub is_nothing : Found → Bool
-is_nothing nothing = true
-is_nothing (just s) = false
-
 -- the bytes of what is found
-abbrev pub text_of : Found → List ℕ
-text_of nothing = []
-text_of (just s) = setting_text s
+abbrev pub text_of : Option Setting → List ℕ
+text_of None = []
+text_of (Some s) = setting_text s
 
 abbrev pub is_version : ℕ → ℕ → Saved → Bool
 is_version table version e = eqb e.table table && eqb e.version version
 
 -- the setting of a table's version: the first, where there are several
-unfoldable pub found : ℕ → ℕ → List Saved → Found
-found table version [] = nothing
-found table version (e ∷ l) = cond (is_version table version e) (just e.setting) (found table version l)
+unfoldable pub found : ℕ → ℕ → List Saved → Option Setting
+found table version [] = None
+found table version (e ∷ l) = cond (is_version table version e) (Some e.setting) (found table version l)
 
 abbrev pub is_held : ℕ → ℕ → List Saved → Bool
-is_held table version l = not (is_nothing (found table version l))
+is_held table version l = is_some (found table version l)
 
 -- the versions that pass a test of table and version, in their order
 unfoldable pub only : (ℕ → ℕ → Bool) → List Saved → List Saved

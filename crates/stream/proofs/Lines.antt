@@ -4,11 +4,11 @@ use mathlib.Core.Path.{◌≡◌, refl, sym, ap, ◌∙◌}
 use mathlib.Core.Bool.{false}
 use mathlib.Core.List.{List, [], ◌∷◌, ◌++◌}
 use mathlib.Core.Logic.{⊎_elim}
-use native.Mathlib.Numerals.{add-one, unary_clauses}
-use native.Mathlib.Nat.{add_comm, zero-min, min-zero, suc-min-suc}
+use native.Mathlib.Numerals.{unary_clauses}
+use native.Mathlib.Nat.{zero-min, min-zero, suc-min-suc}
 use native.Mathlib.Omega.{arith}
-use lib.ListN.{length, take, drop, get_or, set, length-append, length-take, length-drop}
-use lib.Seq.{take_all, take-suc, take-suc-set, drop-set-lt, drop-drop, get_or-drop, take-nil}
+use lib.ListN.{length, take, drop, length-append, length-take, length-drop}
+use lib.Seq.{take_all, take-nil}
 use Rattle.text.specs.Lines.{lines_of, end_of}
 use Rattle.text.specs.Run.{answers, Runs}
 use Rattle.text.specs.laws.Run.{reached_none, reached_both, answered_room}
@@ -18,7 +18,7 @@ use Rattle.script.specs.Twin.{twin}
 use Rattle.script.specs.declared.twin.State.{State}
 use Rattle.script.specs.declared.twin.Ran.{Ran}
 use Rattle.stream.specs.Output.{Sends}
-use Rattle.stream.specs.Steps.{HandedOver, Kept}
+use Rattle.stream.specs.Steps.{HandedOver}
 use Rattle.stream.specs.declared.output.Output.{Output}
 
 pub handed_none : (o : Output) (text : List ℕ) → HandedOver o text 0 o
@@ -32,20 +32,20 @@ module _ (o : Output) (text : List ℕ) (from : ℕ) (now : Output) (a : HandedO
   ran : Runs twin now.state (drop from text) old new r.read r.wrote r.state
   ran = rw (q, part_is) at b
 
-  answers_there : take (r.wrote - 0) new ≡ ran.written
-  answers_there = let z : r.wrote - 0 ≡ r.wrote = omega arith in rw z (written_first ran.text)
+  answers_there : take r.wrote new ≡ ran.written
+  answers_there = written_first ran.text
 
-  pub handed_more : (next : Output) → (next.state ≡ r.state) × (next.sent ≡ now.sent + length (take (r.wrote - 0) new)) → HandedOver o text (from + r.read) next
+  pub handed_more : (next : Output) → (next.state ≡ r.state) × (next.sent ≡ now.sent + length (take r.wrote new)) → HandedOver o text (from + r.read) next
   handed_more next h = record {
     written = a.written ++ ran.written;
     reached = rw h.0 (reached_both twin a.reached ran.reached);
     sent_is = rw length-append (omega (arith, h.1, a.sent_is, ap length answers_there));
   }
 
-  pub sends_batch : (place : ℕ) → place ≡ now.sent → o.sent + 76 * length text < 2 ^ 64 → Sends place now (take (from + r.read - from) (drop from text)) (take (r.wrote - 0) new) r.state
+  pub sends_batch : (place : ℕ) → place ≡ now.sent → o.sent + 76 * length text < 2 ^ 64 → Sends place now (take (from + r.read - from) (drop from text)) (take r.wrote new) r.state
   sends_batch place here h =
       let z : from + r.read - from ≡ r.read = omega arith in
-      let next : Output = record { state = r.state; sent = now.sent + length (take (r.wrote - 0) new); failed = false } in
+      let next : Output = record { state = r.state; sent = now.sent + length (take r.wrote new); failed = false } in
       let m = handed_more next (refl, refl) in
       record {
         here = here;
@@ -60,28 +60,6 @@ module _ (o : Output) (text : List ℕ) (from : ℕ) (now : Output) (a : HandedO
       ⊎_elim (λ (g : length (drop from text) ≤ r.read + end_of (drop r.read (drop from text))). omega (arith, rw (z, length-drop) at g))
       (λ (g : length old < r.wrote + 76). absurd (omega arith))
       ran.stop
-
--- a byte that is moved down
-module _ (old now : List ℕ) (from i : ℕ) (t : take i now ≡ take i (drop from old)) (d : drop i now ≡ drop i old) (l : length now ≡ length old) where
-  moved : get_or now (from + i) 0 ≡ get_or (drop from old) i 0
-  moved =
-      ap (λ (n : ℕ). get_or now n 0) (add_comm from i)
-      ∙ sym (get_or-drop i now from 0)
-      ∙ ap (λ (x : List ℕ). get_or x from 0) d
-      ∙ get_or-drop i old from 0
-      ∙ ap (λ (n : ℕ). get_or old n 0) (add_comm i from)
-      ∙ sym (get_or-drop from old i 0)
-
-  pub keep_take : from + i < length old → take (i + 1) (set now i (get_or now (from + i) 0)) ≡ take (i + 1) (drop from old)
-  keep_take h =
-      let g : i < length (drop from old) = rw length-drop (omega arith) in
-      rw (add-one, take-suc-set now i (get_or now (from + i) 0) (omega arith), take-suc (drop from old) i 0 g, t, moved)
-
-  pub keep_drop : (v : ℕ) → drop (i + 1) (set now i v) ≡ drop (i + 1) old
-  keep_drop v = drop-set-lt (i + 1) now i v (omega arith) ∙ sym (drop-drop 1 i now) ∙ ap (drop 1) d ∙ drop-drop 1 i old
-
-pub kept : (old new : List ℕ) (from end n i : ℕ) → n ≡ min 95 (end - from) → i ≤ n → n ≤ i → take i new ≡ take i (drop from old) → Kept old from end new i
-kept old new from end n i h a b t = record { count = omega arith; text = t }
 
 pub take_min : (n m : ℕ) (l : List ℕ) → take (min n m) l ≡ take n (take m l)
 take_min zero m l = rw zero-min

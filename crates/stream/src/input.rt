@@ -1,52 +1,67 @@
 // Standard input: how much was read from it.
-ghost use Rattle.std.specs.Prelude.{◌≡◌, ◌+◌, ◌-◌, ◌^◌, ◌<◌, ◌≤◌, length, ltb};
+ghost use Rattle.std.specs.Prelude.{◌≡◌, ◌+◌, ◌-◌, ◌^◌, ◌<◌, ◌≤◌, ◌↔◌, IsTrue, length};
 ghost use Rattle.stream.specs.Input.{nothing_read, Receives};
+ghost use Rattle.stream.specs.declared.input.Status.TheVariants.{Ended, Failed};
 
 use crate::failure::tell;
 use std::io::Read;
 
-// How many bytes were read, and whether the last read found the end or failed. Only this module makes one.
-#[derive(Clone, Copy)]
+// Whether there is more to come, all is read, or a call failed.
+#[derive(Clone, Copy, Debug, PartialEq, Eq)]
+pub enum Status {
+    Open,
+    Ended,
+    Failed,
+}
+
+// How many bytes were read, and what the last read came to. Only this module makes one.
+#[derive(Clone, Copy, Debug, PartialEq, Eq)]
 pub struct Input {
     read: usize,
-    ended: bool,
-    failed: bool,
+    status: Status,
 }
 
-pub fn unread() -> Input
-    ensures { result ≡ nothing_read }
-{
-    Input {
-        read: 0,
-        ended: false,
-        failed: false,
+impl Input {
+    pub fn unread() -> Input
+        ensures { result ≡ nothing_read }
+    {
+        Input {
+            read: 0,
+            status: Status::Open,
+        }
     }
-}
 
-pub fn has_ended(input: Input) -> bool
-    ensures { result ≡ input.ended }
-{
-    input.ended
-}
+    pub fn status(self) -> Status
+        ensures { result ≡ self.status }
+    {
+        self.status
+    }
 
-pub fn has_failed(input: Input) -> bool
-    ensures { result ≡ input.failed }
-{
-    input.failed
-}
+    pub fn has_ended(self) -> bool
+        ensures { IsTrue result ↔ (self.status ≡ Ended) }
+    {
+        self.status == Status::Ended
+    }
 
-pub fn has_less(input: Input, most: usize) -> bool
-    ensures { result ≡ ltb input.read most }
-{
-    input.read < most
-}
+    pub fn has_failed(self) -> bool
+        ensures { IsTrue result ↔ (self.status ≡ Failed) }
+    {
+        self.status == Status::Failed
+    }
 
-// How many bytes were read since.
-pub fn since(before: Input, input: Input) -> usize
-    requires { before.read ≤ input.read }
-    ensures { result ≡ input.read - before.read }
-{
-    input.read - before.read
+    pub fn has_less(self, most: usize) -> bool
+        ensures { IsTrue result ↔ (self.read < most) }
+    {
+        self.read < most
+    }
+
+    // How many bytes were read since.
+    pub fn since(self, before: Input) -> usize
+        requires { before.read ≤ self.read }
+        ensures { result ≡ self.read - before.read }
+    {
+        self.read - before.read
+    }
 }
 
 // The one place that reads, behind the first `have` bytes; nothing at the end of the input. A read that fails is told of at once.
@@ -67,17 +82,15 @@ pub fn receive(
         Ok(n) => {
             *place = before.read + n;
             Input {
-                read: before.read + n,
-                ended: n == 0,
-                failed: false,
+                read: *place,
+                status: if n == 0 { Status::Ended } else { Status::Open },
             }
         }
         Err(error) => {
             tell(rt, "lamptwin: input", error);
             Input {
                 read: before.read,
-                ended: false,
-                failed: true,
+                status: Status::Failed,
             }
         }
     }

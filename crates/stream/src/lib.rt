@@ -8,3 +8,4 @@ mod output;
 pub mod proved_callers;
 
 pub use buffers::Stream;
+pub use input::Status;

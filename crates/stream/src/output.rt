@@ -14,27 +14,28 @@ pub struct Output {
     failed: bool,
 }
 
-pub fn untouched(first: State) -> Output
-    ensures { result ≡ nothing_sent first }
-{
-    Output {
-        state: first,
-        sent: 0,
-        failed: false,
+impl Output {
+    pub fn untouched(first: State) -> Output
+        ensures { result ≡ nothing_sent first }
+    {
+        Output {
+            state: first,
+            sent: 0,
+            failed: false,
+        }
     }
-}
 
-pub fn state_of(output: Output) -> State
-    ensures { result ≡ output.state }
-{
-    let state = output.state;
-    state
-}
+    pub fn state(self) -> State
+        ensures { result ≡ self.state }
+    {
+        self.state
+    }
 
-pub fn has_failed(output: Output) -> bool
-    ensures { result ≡ output.failed }
-{
-    output.failed
+    pub fn has_failed(self) -> bool
+        ensures { result ≡ self.failed }
+    {
+        self.failed
+    }
 }
 
 // The one place that writes: the text is the answers to the lines, and `next` the state after them. A write that fails is told of at once.
@@ -61,7 +62,7 @@ pub fn hand_over(
     *place = before.sent + text.len();
     Output {
         state: next,
-        sent: before.sent + text.len(),
+        sent: *place,
         failed,
     }
 }

@@ -1,102 +1,42 @@
--- The loops over an input: to the next line feed, and counting them.
-use Prim.Native.Nat.{ℕ, min, ◌+◌, ◌-◌, ◌≤◌, ◌<◌}
-use mathlib.Core.Path.{◌≡◌, refl}
-use mathlib.Core.List.{List, [], ◌∷◌, ◌++◌}
-use mathlib.Core.Logic.{◌⊎◌, inl, inr}
-use native.Mathlib.Numerals.{add-one}
-use native.Mathlib.Nat.{add-suc}
-use native.Mathlib.Omega.{arith}
-use borrow.Author.Tests.{eq-eqb, ne_eqb}
-use lib.ListN.{length, take, drop, get_or, length-take, length-drop, take-append-drop, drop_of_length-le}
-use lib.Seq.{drop-cons, drop-drop}
-use lib.Dec.{eqb}
-use Rattle.basics.specs.laws.Logic.{holds, fails, tested}
-use Rattle.text.specs.Lines.{end_of}
-use Rattle.text.specs.laws.Lines.{feeds, unended}
+-- Where a search for a line feed stops, and how many there are.
+use Rattle.std.specs.Prelude.{ℕ, Bool, zero, suc, ◌+◌, ◌-◌, ◌≤◌, ◌<◌, ◌≡◌, refl, true, List, [], ◌∷◌, length, slice_index, count_by, cond, eqb, get_or, drop, false, ◌||◌}
+use Rattle.std.proofs.Common.{ap, ◌∙◌, arith, le_of_suc-le-suc}
+use Rattle.std.proofs.Math.Dec.{eqb-suc-zero}
+use Rattle.std.proofs.lemmas.List.{drop_all}
+use Rattle.std.proofs.lemmas.List.Sums.{sum_by-cons}
+use Rattle.text.specs.Lines.{end_of, lines_of}
+use Rattle.text.specs.laws.Lines.{feeds, unended, counted}
 
-module _ (l : List ℕ) (i : ℕ) where
-  pub end_here : i < length l → get_or l i 0 ≡ 10 → i + end_of (drop i l) ≡ i
-  unfolding end_of
-  end_here h e = rw (drop-cons l i 0 h, eq-eqb _ _ e) (omega arith)
+abbrev pub is_feed : ℕ → Bool
+is_feed b = eqb b 10
 
-  pub end_on : i < length l → (get_or l i 0 ≡ 10 → ⊥) → i + 1 + end_of (drop (i + 1) l) ≡ i + end_of (drop i l)
-  unfolding end_of
-  end_on h n = rw (drop-cons l i 0 h, ne_eqb _ _ n, add-one, add-suc) (omega arith)
+-- the end of a line, by the byte at i
+pub end_here : (l : List ℕ) (i : ℕ) → i < length l → is_feed (get_or l i 0) ≡ true → end_of (drop i l) ≡ 0
+unfolding end_of
+end_here [] i h e = absurd (omega arith)
+end_here (b ∷ l) zero h e = rw e refl
+end_here (b ∷ l) (suc i) h e = end_here l i (le_of_suc-le-suc h) e
 
-  pub end_none : length l ≤ i → i + end_of (drop i l) ≡ i
-  unfolding end_of
-  end_none h = rw (drop_of_length-le l h) (omega arith)
+pub end_later : (l : List ℕ) (i : ℕ) → i < length l → is_feed (get_or l i 0) ≡ false → end_of (drop i l) ≡ 1 + end_of (drop (i + 1) l)
+unfolding end_of
+end_later [] i h e = absurd (omega arith)
+end_later (b ∷ l) zero h e = rw e (omega arith)
+end_later (b ∷ l) (suc i) h e = let n : suc i + 1 ≡ suc (i + 1) = omega arith in rw n (end_later l i (le_of_suc-le-suc h) e)
 
--- bytes without a line feed are passed over
-skip : (p s : List ℕ) → feeds p ≡ 0 → end_of (p ++ s) ≡ length p + end_of s
-unfolding feeds end_of
-skip [] s e = omega arith
-skip (b ∷ p) s e =
-    elim (tested (eqb b 10)) [
-      | holds t ↦ absurd (omega (arith, rw t at e))
-      | fails t ↦ rw t (omega (arith, skip p s (omega (arith, rw t at e))))
-    ]
+pub end_past : (l : List ℕ) (i : ℕ) → length l ≤ i → end_of (drop i l) ≡ 0
+unfolding end_of
+end_past l i h = rw (drop_all i l h) refl
 
-pub end_past : (l : List ℕ) (i n : ℕ) → i + n ≤ length l → feeds (take n (drop i l)) ≡ 0 → i + n + end_of (drop (i + n) l) ≡ i + end_of (drop i l)
-end_past l i n h e =
-    let k : length (take n (drop i l)) ≡ n = rw (length-take, length-drop) (omega arith) in
-    let q = skip (take n (drop i l)) (drop n (drop i l)) e in
-    omega (arith, k, rw (take-append-drop, drop-drop) at q)
-
--- the last line's end is the last byte
-pub last_none : (l : List ℕ) → length l ≡ 0 → 0 ≡ unended l
-last_none [] e = refl
-last_none (b ∷ l) e = absurd (omega arith)
-
-pub last_fed : (l : List ℕ) → (length l ≡ 0 → ⊥) → get_or l (length l - 1) 0 ≡ 10 → 0 ≡ unended l
-last_fed [] n e = absurd (n refl)
-last_fed (b ∷ l) n e = let q : length (b ∷ l) - 1 ≡ length l = omega arith in rw (eq-eqb (get_or (b ∷ l) (length l) 0) 10 (rw q at e)) refl
-
-pub last_unfed : (l : List ℕ) → (length l ≡ 0 → ⊥) → (get_or l (length l - 1) 0 ≡ 10 → ⊥) → 1 ≡ unended l
-last_unfed [] n e = absurd (n refl)
-last_unfed (b ∷ l) n e = let q : length (b ∷ l) - 1 ≡ length l = omega arith in rw (ne_eqb (get_or (b ∷ l) (length l) 0) 10 (rw q at e)) refl
-
--- one byte further: it is a line feed, or not
-module _ (l : List ℕ) (i : ℕ) (h : i < length l) where
-  feed_here : get_or l i 0 ≡ 10 → feeds (drop i l) ≡ 1 + feeds (drop (i + 1) l)
-  unfolding feeds
-  feed_here e = rw (drop-cons l i 0 h, eq-eqb _ _ e, add-one)
-
-  feed_else : (get_or l i 0 ≡ 10 → ⊥) → feeds (drop i l) ≡ feeds (drop (i + 1) l)
-  unfolding feeds
-  feed_else n = rw (drop-cons l i 0 h, ne_eqb _ _ n, add-one) (omega arith)
-
-  pub feeds_next : (n m : ℕ) → n + feeds (drop i l) ≡ feeds l → ((get_or l i 0 ≡ 10) × (m ≡ n + 1)) ⊎ ((get_or l i 0 ≡ 10 → ⊥) × (m ≡ n)) → m + feeds (drop (i + 1) l) ≡ feeds l
-  feeds_next n m e (inl t) = omega (arith, t.1, feed_here t.0)
-  feeds_next n m e (inr t) = omega (arith, t.1, feed_else t.0)
-
-  pub feed_next : (n m : ℕ) → n ≤ 1 → min (n + feeds (drop i l)) 1 ≡ min (feeds l) 1 → ((get_or l i 0 ≡ 10) × (m ≡ 1)) ⊎ ((get_or l i 0 ≡ 10 → ⊥) × (m ≡ n)) → (m ≤ 1) × (min (m + feeds (drop (i + 1) l)) 1 ≡ min (feeds l) 1)
-  feed_next n m h e (inl t) = (omega (arith, t.1), omega (arith, t.1, feed_here t.0))
-  feed_next n m h e (inr t) = (omega (arith, t.1), omega (arith, t.1, feed_else t.0))
-
--- some bytes further
-both : (p s : List ℕ) → feeds (p ++ s) ≡ feeds p + feeds s
+feeds_counted : (l : List ℕ) → count_by is_feed l ≡ feeds l
 unfolding feeds
-both [] s = omega arith
-both (b ∷ p) s = omega (arith, both p s)
+feeds_counted [] = refl
+feeds_counted (b ∷ l) = sum_by-cons (λ x. cond (is_feed x) 1 0) b l ∙ ap (λ n. cond (eqb b 10) 1 0 + n) (feeds_counted l)
 
-pub feeds_on : (l : List ℕ) (i j n m : ℕ) → i ≤ j → n + feeds (drop i l) ≡ feeds l → m ≡ feeds (take (j - i) (drop i l)) → n + m + feeds (drop j l) ≡ feeds l
-feeds_on l i j n m h e k =
-    let q : i + (j - i) ≡ j = omega arith in
-    omega (arith, k, rw (take-append-drop, drop-drop, q) at (both (take (j - i) (drop i l)) (drop (j - i) (drop i l))))
+-- a line for each line feed, and a last one that lacks it
+pub counted_lines : (l : List ℕ) → length (lines_of l) ≡ count_by is_feed l + unended l
+counted_lines l = omega (arith, counted l, feeds_counted l)
 
-pub feeds_few : (l : List ℕ) → feeds l ≤ length l
-unfolding feeds
-feeds_few [] = omega arith
-feeds_few (b ∷ l) = elim (tested (eqb b 10)) [ holds t ↦ rw t (omega (arith, feeds_few l)) | fails t ↦ rw t (omega (arith, feeds_few l)) ]
-
--- past the last byte all are seen, and all are counted
-feeds_none : (l : List ℕ) (i : ℕ) → length l ≤ i → feeds (drop i l) ≡ 0
-unfolding feeds
-feeds_none l i h = rw (drop_of_length-le l h)
-
-pub feed_done : (l : List ℕ) (i n : ℕ) → length l ≤ i → n ≤ 1 → min (n + feeds (drop i l)) 1 ≡ min (feeds l) 1 → n ≡ min (feeds l) 1
-feed_done l i n h k e = omega (arith, feeds_none l i h)
-
-pub feeds_done : (l : List ℕ) (i n : ℕ) → length l ≤ i → n + feeds (drop i l) ≡ feeds l → n ≡ feeds l
-feeds_done l i n h e = omega (arith, feeds_none l i h)
+-- what a last byte says
+pub open_end : (l : List ℕ) → unended l ≡ cond (eqb (length l) 0 || eqb (slice_index l (length l - 1)) 10) 0 1
+open_end [] = refl
+open_end (b ∷ l) = let q : length (b ∷ l) - 1 ≡ length l = omega arith in rw (eqb-suc-zero (length l), q)

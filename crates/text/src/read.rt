@@ -1,143 +1,107 @@
 // Reading a line from the left: past a key, past a number.
-ghost use Rattle.std.specs.Prelude.{◌≡◌, List, ℕ, ◌-◌, get_or, drop};
-ghost use Rattle.text.specs.Read.{rest_at, number_in, is_end, is_digit, takes_digit, after_key, key_of, number_of, digits_of, field_of};
+ghost use Rattle.std.specs.Prelude.{◌≡◌, Some, List, ℕ, drop, get_or};
+ghost use Rattle.text.specs.Read.{rest, rest_at, number_in, is_end, takes_digit, key_of, number_of, digits_of, field_of};
 
-// How far a line is read, with the number last read; or it is of another shape.
-#[derive(Clone, Copy)]
-pub enum Field {
-    At { at: usize, number: u64 },
-    Mismatch,
+// How far a line is read, with the number last read. A line of another shape has no field.
+#[derive(Clone, Copy, Debug, PartialEq, Eq)]
+pub struct Field {
+    pub at: usize,
+    pub number: u64,
 }
 
 // Nothing is read yet.
-pub fn start() -> Field
-    ensures { result ≡ Field.At 0 0 }
+pub fn start() -> Option<Field>
+    ensures { result ≡ Some (record { at = 0; number = 0 }) }
 {
-    Field::At { at: 0, number: 0 }
+    Some(Field { at: 0, number: 0 })
 }
 
 // The number last read, or 0.
-pub fn number_of(field: Field) -> u64
+pub fn number_of(field: Option<Field>) -> u64
     ensures { (l : List ℕ) → result ≡ number_in (rest_at l field) }
 {
-    match field {
-        Field::At { at: _, number } => number,
-        Field::Mismatch => 0,
-    }
+    field.map_or(0, |field| field.number)
 }
 
 // Whether the line is read to its end.
-pub fn at_end(line: &[u8], field: Field) -> bool
+#[tactic(auto, using(crate::proofs::Reading::end_at))]
+pub fn at_end(line: &[u8], field: Option<Field>) -> bool
     ensures { result ≡ is_end (rest_at line.now field) }
 {
-    match field {
-        Field::At { at, number: _ } => line.len() <= at,
-        Field::Mismatch => false,
-    }
+    field.is_some_and(|field| line.len() <= field.at)
 }
 
 // The byte at i, or 0 past the end.
 pub fn byte_at(line: &[u8], i: usize) -> u8
     ensures { result ≡ get_or line.now i 0 }
 {
-    if i < line.len() { line[i] } else { 0 }
+    line.get(i).copied().unwrap_or(0)
 }
 
-fn is_digit(d: u8) -> bool
-    ensures { result ≡ is_digit d }
+// What is left of the line from `at` on.
+pub(crate) fn rest_of(line: &[u8], at: usize) -> &[u8]
+    ensures { result.now ≡ drop at line.now }
 {
-    48 <= d && d < 58
-}
-
-// The value of a digit.
-fn value(d: u8) -> u64
-    ensures { result ≡ d - 48 }
-{
-    if d < 48 { 0 } else { (d - 48) as u64 }
+    line.get(at..).unwrap_or(&[])
 }
 
 // Whether the digit d goes on the number n: not after a single 0, and not past 15 digits.
 fn takes_digit(n: u64, d: u8) -> bool
     ensures { result ≡ takes_digit n d }
 {
-    if n == 0 {
-        return false;
-    }
-    if n < 100_000_000_000_000 {
-        is_digit(d)
-    } else {
-        false
-    }
-}
-
-// Past the key, from at on.
-fn skip(line: &[u8], key: &[u8], at: usize, number: u64) -> Field
-    ensures { rest_at line.now result ≡ after_key key.now (drop at line.now) number }
-{
-    let mut i = 0;
-    let mut j = at;
-    while i < key.len() {
-        if line.len() <= j {
-            return Field::Mismatch;
-        }
-        if line[j] != key[i] {
-            return Field::Mismatch;
-        }
-        i += 1;
-        j += 1;
-    }
-    Field::At { at: j, number }
+    n != 0 && n < 100_000_000_000_000 && d.is_ascii_digit()
 }
 
 // Past a key; the number stays.
-#[tactic(auto, unfolding(crate::specs::Read::key_of))]
-pub fn read_key(line: &[u8], from: Field, key: &[u8]) -> Field
+#[tactic(auto, using(crate::proofs::Reading::skipped_at), unfolding(crate::specs::Read::key_of))]
+pub fn read_key(line: &[u8], from: Option<Field>, key: &[u8]) -> Option<Field>
     ensures { rest_at line.now result ≡ key_of key.now (rest_at line.now from) }
 {
-    match from {
-        Field::At { at, number } => skip(line, key, at, number),
-        Field::Mismatch => Field::Mismatch,
+    let Field { at, number } = from?;
+    if !rest_of(line, at).starts_with(key) {
+        return None;
     }
+    Some(Field {
+        at: at + key.len(),
+        number,
+    })
 }
 
 // Past the further digits of a number.
+#[tactic(auto, using(crate::proofs::Reading::digits_at))]
 fn digits(line: &[u8], at: usize, first: u64) -> Field
-    ensures { rest_at line.now result ≡ digits_of first (drop at line.now) }
+    ensures { rest (drop result.at line.now) result.number ≡ digits_of first (drop at line.now) }
 {
-    let mut n = first;
-    let mut i = at;
-    while i < line.len() {
-        let d = line[i];
-        if takes_digit(n, d) {
-            n = n * 10 + value(d);
-            i += 1;
-        } else {
-            return Field::At { at: i, number: n };
+    let rest = rest_of(line, at);
+    let mut number = first;
+    for (i, &d) in rest.iter().enumerate() {
+        if !takes_digit(number, d) {
+            return Field { at: at + i, number };
         }
+        number = number * 10 + u64::from(d - b'0');
     }
-    Field::At { at: i, number: n }
+    Field {
+        at: at + rest.len(),
+        number,
+    }
 }
 
 // Past a number.
-#[tactic(auto, unfolding(crate::specs::Read::number_of))]
-fn read_number(line: &[u8], from: Field) -> Field
+#[tactic(auto, using(crate::proofs::Reading::first_at), unfolding(crate::specs::Read::number_of))]
+fn read_number(line: &[u8], from: Option<Field>) -> Option<Field>
     ensures { rest_at line.now result ≡ number_of (rest_at line.now from) }
 {
-    let Field::At { at, number: _ } = from else {
-        return Field::Mismatch;
-    };
-    if at < line.len() {
-        let d = line[at];
-        if is_digit(d) {
-            return digits(line, at + 1, value(d));
-        }
+    let Field { at, .. } = from?;
+    let d = *line.get(at)?;
+    if !d.is_ascii_digit() {
+        return None;
     }
-    Field::Mismatch
+    Some(digits(line, at + 1, u64::from(d - b'0')))
 }
 
 // Past a key and a number.
 #[tactic(auto, unfolding(crate::specs::Read::field_of))]
-pub fn read_field(line: &[u8], from: Field, key: &[u8]) -> Field
+pub fn read_field(line: &[u8], from: Option<Field>, key: &[u8]) -> Option<Field>
     ensures { rest_at line.now result ≡ field_of key.now (rest_at line.now from) }
 {
     read_number(line, read_key(line, from, key))

@@ -8,15 +8,13 @@ pub fn write_text(src: &[u8], out: &mut [u8], at: usize) -> usize
     requires { at + length src.now ≤ length out.old }
     ensures { Written out.old at src.now out.new result }
 {
-    let mut i = 0;
-    while i < src.len() {
-        out[at + i] = src[i];
-        i += 1;
-    }
-    at + i
+    let end = at + src.len();
+    out[at..end].copy_from_slice(src);
+    end
 }
 
-// The last digit is put first, so that nobody need know beforehand how many there are.
+// The last digit is put first, so that nobody need know beforehand how many there are. A loop of its own: by its contract std's text of
+// a number may be cut.
 pub fn write_decimal(n: u64, out: &mut [u8], at: usize) -> usize
     requires { at + 20 ≤ length out.old }
     ensures written { Written out.old at (decimal n) out.new result }
@@ -26,10 +24,10 @@ pub fn write_decimal(n: u64, out: &mut [u8], at: usize) -> usize
     let mut first: usize = 19;
     let mut rest = n;
     while 10 <= rest {
-        digits[first] = 48 + (rest % 10) as u8;
-        rest = rest / 10;
+        digits[first] = b'0' + (rest % 10) as u8;
+        rest /= 10;
         first -= 1;
     }
-    digits[first] = 48 + rest as u8;
+    digits[first] = b'0' + rest as u8;
     write_text(&digits[first..], out, at)
 }

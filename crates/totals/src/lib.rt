@@ -7,9 +7,6 @@ mod limits;
 pub mod proved_callers;
 mod raise;
 mod records;
-mod units;
-
-pub use records::{is_legal, record_exceeds, totals_fit};
 
 // A device, and for each of its outputs how long it was lit and how long unlit, in the unit of the device's kind, over all its waits.
 // Numbers past the chip's outputs are 0.

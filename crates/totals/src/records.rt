@@ -3,37 +3,29 @@ ghost use Rattle.std.specs.Prelude.{◌≡◌, false};
 ghost use Rattle.totals.specs.Totals.{totals_fit, legal_record};
 ghost use Rattle.totals.specs.Wait.{exceeds_for, waited_for};
 
-use crate::Record;
+use crate::{Record, limits, raise};
 use lamp::Duration;
 
-// Whether its totals can be handed in.
-pub fn totals_fit(r: Record) -> bool
-    ensures { result ≡ totals_fit r 0 }
-{
-    let d = r.device;
-    let chip = d.chip;
-    let lit = r.lit;
-    let unlit = r.unlit;
-    crate::limits::fit(chip, &lit, &unlit)
-}
-
-// Whether it can be handed in by itself.
-pub fn is_legal(r: Record) -> bool
-    ensures { result ≡ legal_record r }
-{
-    if device::well_formed::is_ok(r.device) {
-        totals_fit(r)
-    } else {
-        false
+impl Record {
+    // Whether its totals can be handed in.
+    pub fn totals_fit(self) -> bool
+        ensures { result ≡ totals_fit self 0 }
+    {
+        limits::fit(self.device.chip, &self.lit, &self.unlit)
     }
-}
 
-pub fn record_exceeds(r: Record, duration: Duration) -> bool
-    ensures { result ≡ exceeds_for r duration }
-{
-    let lit = r.lit;
-    let unlit = r.unlit;
-    crate::limits::exceeds(r.device, &lit, &unlit, duration)
+    // Whether it can be handed in by itself.
+    pub fn is_legal(self) -> bool
+        ensures { result ≡ legal_record self }
+    {
+        self.device.is_ok() && self.totals_fit()
+    }
+
+    pub fn exceeds(self, duration: Duration) -> bool
+        ensures { result ≡ exceeds_for self duration }
+    {
+        limits::exceeds(self.device, &self.lit, &self.unlit, duration)
+    }
 }
 
 // After a wait that exceeds nothing.
@@ -43,6 +35,6 @@ pub fn record_waited(r: Record, duration: Duration) -> Record
 {
     let mut lit = r.lit;
     let mut unlit = r.unlit;
-    let device = crate::raise::wait(r.device, duration, &mut lit, &mut unlit);
+    let device = raise::wait(r.device, duration, &mut lit, &mut unlit);
     Record { device, lit, unlit }
 }

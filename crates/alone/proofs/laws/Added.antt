@@ -1,15 +1,10 @@
 -- A device that is added to a bus, and to an empty one; and what stands before its add.
-use Rattle.std.specs.Prelude.{◌≡◌, true, false, ℕ, ◌+◌, ◌≤◌, ◌<◌, eqb, length}
-use Rattle.std.proofs.Math.Path.{refl, ap}
-use Rattle.std.proofs.Common.{sym, ◌∙◌, true≢false, le_trans, arith}
-use Rattle.std.proofs.lemmas.Bool.{false≢true}
-use mathlib.Core.List.{List, [], ◌∷◌, ◌++◌}
-use borrow.Author.Tests.{leb-false, ne_eqb, not-false}
+use Rattle.std.specs.Prelude.{Option, Some, None, ◌≡◌, true, false, ℕ, ◌+◌, ◌≤◌, ◌<◌, eqb, length, refl, List, [], ◌∷◌, ◌++◌}
+use Rattle.std.proofs.Common.{ap, sym, ◌∙◌, true≢false, le_trans, arith, leb-false, ne_eqb}
+use Rattle.std.proofs.lemmas.Bool.{false≢true, not-false}
 use Rattle.basics.specs.First.{all}
 use Rattle.chip.specs.Kinds.{chip_numbered, is_unknown}
 use Rattle.chip.specs.declared.Chip.{Chip}
-use Rattle.chip.specs.declared.Lookup.{Lookup}
-use Rattle.chip.specs.declared.Lookup.TheVariants.{Known, Unknown}
 use Rattle.device.specs.declared.Phase.{Phase}
 use Rattle.device.specs.declared.Phase.TheVariants as P
 use Rattle.device.specs.Reset.{fresh}
@@ -45,9 +40,9 @@ first_added : (chip : Chip) (address : ℕ) → with_added empty_bus (fresh chip
 unfolding only
 first_added chip address = refl
 
-found_alone : (b : Bus) (found : Lookup) (address : ℕ) → is_unknown found ≡ false → is_open b.phase ≡ false → b.count < 8 → b.count < length b.devices → added_to empty_bus found address ≡ alone b.count (added_to b found address)
-found_alone b Unknown address u o h k = absurd (true≢false u)
-found_alone b (Known chip) address u o h k =
+found_alone : (b : Bus) (found : Option Chip) (address : ℕ) → is_unknown found ≡ false → is_open b.phase ≡ false → b.count < 8 → b.count < length b.devices → added_to empty_bus found address ≡ alone b.count (added_to b found address)
+found_alone b None address u o h k = absurd (true≢false u)
+found_alone b (Some chip) address u o h k =
     first_added chip address
     ∙ ap (λ (p : Phase). only p (record_of (fresh chip address) zeros zeros)) (sym (idle b.phase o))
     ∙ ap (only b.phase) (sym (added_record b (fresh chip address) h k))

@@ -1,10 +1,7 @@
 -- An entry of a recording by hand, for the device alone: the wait of its time stays, whoever its event is for.
-use Rattle.std.specs.Prelude.{◌≡◌, true, false, eqb}
-use Rattle.std.proofs.Math.Path.{refl, ap}
-use Rattle.std.proofs.Common.{◌∙◌, ⊎_elim, arith}
-use mathlib.Core.List.{List, [], ◌∷◌, ◌++◌, append-nil}
-use Prim.Native.Nat.{ℕ, zero, suc, ◌≤◌, ◌<◌}
-use borrow.Author.Tests.{eq-eqb, ne_eqb, eqb-true, eqb-false}
+use Rattle.std.specs.Prelude.{◌≡◌, true, false, eqb, refl, List, [], ◌∷◌, ◌++◌, ℕ, zero, suc, ◌≤◌, ◌<◌}
+use Rattle.std.proofs.Common.{ap, ◌∙◌, ⊎_elim, arith, append-nil, eq-eqb, ne_eqb, eqb-true}
+use Rattle.std.proofs.lemmas.Bool.{eqb-false}
 use Rattle.basics.specs.laws.Logic.{holds, fails, tested, lt_or_ge}
 use Rattle.lamp.specs.declared.DriverTicks.{DriverTicks}
 use Rattle.chip.specs.Kinds.{is_driver}
@@ -13,10 +10,9 @@ use Rattle.bus.specs.Devices.{device_at}
 use Rattle.bus.proofs.laws.Steps.{below_count}
 use Rattle.bus.specs.declared.Bus.{Bus}
 use Rattle.bus.specs.declared.Event.{Event}
-use Rattle.replay.specs.Time.{since}
+use Rattle.replay.specs.Time.{Clock, since}
+use Rattle.replay.specs.Replay.{stamped}
 use Rattle.replay.specs.ByHand.{wait_at, waits_below, by_hand}
-use Rattle.replay.specs.declared.Clock.{Clock}
-use Rattle.replay.specs.declared.Entry.TheVariants.{Stamped}
 use Rattle.alone.specs.Alone.{only, alone, Present, concerns, renamed, shortened}
 use Rattle.alone.proofs.laws.Step.{alone_record}
 use Rattle.alone.proofs.laws.Run.{shortened_both}
@@ -61,16 +57,16 @@ module _ (i : ℕ) (b : Bus) (p : Present i b) (ticks : DriverTicks) where
   waits_left = waits_past b.count (below_count b i p.1.0)
 
 module _ (i : ℕ) (b : Bus) (p : Present i b) (clock : Clock) (at : ℕ) (e : Event) where
-  halves : shortened i (by_hand b clock (Stamped at e)) ≡ waits_below (since clock at) (alone i b) (alone i b).count ++ shortened i (e ∷ [])
+  halves : shortened i (by_hand b clock (stamped at e)) ≡ waits_below (since clock at) (alone i b) (alone i b).count ++ shortened i (e ∷ [])
   unfolding by_hand
   halves =
       shortened_both i (waits_below (since clock at) b b.count) (e ∷ [])
       ∙ ap (λ (t : List Event). t ++ shortened i (e ∷ [])) (waits_left i b p (since clock at))
 
-  pub hand_kept : concerns i e ≡ true → shortened i (by_hand b clock (Stamped at e)) ≡ by_hand (alone i b) clock (Stamped at (renamed e))
+  pub hand_kept : concerns i e ≡ true → shortened i (by_hand b clock (stamped at e)) ≡ by_hand (alone i b) clock (stamped at (renamed e))
   unfolding by_hand shortened
   hand_kept o = halves ∙ rw o refl
 
-  pub hand_dropped : concerns i e ≡ false → shortened i (by_hand b clock (Stamped at e)) ≡ waits_below (since clock at) (alone i b) (alone i b).count
+  pub hand_dropped : concerns i e ≡ false → shortened i (by_hand b clock (stamped at e)) ≡ waits_below (since clock at) (alone i b) (alone i b).count
   unfolding shortened
   hand_dropped o = halves ∙ rw o (append-nil _)

@@ -1,10 +1,6 @@
 -- The messages heard by the device alone: their signals are for all, fewer puts are acknowledged, and the bytes got have every bit of the common ones.
-use Rattle.std.specs.Prelude.{◌≡◌, refl, true, cond, eqb, get_or}
-use Rattle.std.proofs.Common.{sym, ◌∙◌, eqb-true}
-use Rattle.std.proofs.Math.Path.{ap}
-use mathlib.Core.List.{List, [], ◌∷◌, map}
-use Prim.Native.Nat.{ℕ, zero, suc, ◌≤◌}
-use native.Mathlib.Omega.{arith}
+use Rattle.std.specs.Prelude.{◌≡◌, refl, true, cond, eqb, get_or, List, [], ◌∷◌, map, ℕ, zero, suc, ◌≤◌}
+use Rattle.std.proofs.Common.{sym, ◌∙◌, eqb-true, ap, arith}
 use Rattle.basics.specs.Bits.{bit}
 use Rattle.basics.specs.laws.Bits.{no_bit}
 use Rattle.basics.specs.laws.Logic.{holds, fails, tested}

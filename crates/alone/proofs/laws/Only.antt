@@ -1,6 +1,5 @@
 -- A bus with one device: its record, its well-formedness, and what a signal and a change of the device make of it.
-use Rattle.std.specs.Prelude.{◌≡◌, true, length}
-use Rattle.std.proofs.Math.Path.{refl}
+use Rattle.std.specs.Prelude.{◌≡◌, true, length, refl}
 use Rattle.std.proofs.Common.{ap, ◌∙◌, arith}
 use Rattle.basics.specs.Below.{all_below}
 use Rattle.basics.specs.First.{map_first, all_first}

@@ -1,8 +1,6 @@
 -- A sequence of events on a bus and on the device alone.
-use Rattle.std.specs.Prelude.{◌≡◌, true, false, cond, ℕ}
-use Rattle.std.proofs.Math.Path.{refl}
-use Rattle.std.proofs.Common.{sym, ap, ◌∙◌, arith}
-use mathlib.Core.List.{List, [], ◌∷◌, ◌++◌, append_assoc}
+use Rattle.std.specs.Prelude.{◌≡◌, true, false, cond, ℕ, refl, List, [], ◌∷◌, ◌++◌}
+use Rattle.std.proofs.Common.{sym, ap, ◌∙◌, arith, append_assoc}
 use Rattle.basics.specs.laws.Logic.{holds, fails, tested}
 use Rattle.bus.specs.Events.{step_reply, run_bus}
 use Rattle.bus.proofs.Promises.{step_well}

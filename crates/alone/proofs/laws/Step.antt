@@ -1,14 +1,11 @@
 -- One event on a bus and on the device alone: what concerns the device has the same refusals and does the same to it; anything else leaves it.
-use Rattle.std.specs.Prelude.{◌≡◌, true, false, List, ◌++◌, ℕ, ◌<◌, eqb, length}
-use Rattle.std.proofs.Math.Path.{refl, ap, subst}
-use Rattle.std.proofs.Common.{sym, ◌∙◌, true≢false, arith, eqb-true}
+use Rattle.std.specs.Prelude.{Option, Some, None, ◌≡◌, true, false, List, ◌++◌, ℕ, ◌<◌, length, refl}
+use Rattle.std.proofs.Common.{ap, subst, sym, ◌∙◌, true≢false, arith, eqb-true}
 use Rattle.std.proofs.lemmas.Bool.{false≢true, eqb-false, not-false}
 use Rattle.basics.specs.laws.First.{map_there}
-use Rattle.basics.specs.laws.Logic.{holds, fails, tested}
 use Rattle.basics.specs.laws.Parts.{part_long}
+use Rattle.chip.specs.declared.Chip.{Chip}
 use Rattle.chip.specs.Kinds.{chip_numbered}
-use Rattle.chip.specs.declared.Lookup.{Lookup}
-use Rattle.chip.specs.declared.Lookup.TheVariants.{Known, Unknown}
 use Rattle.device.specs.declared.Device.{Device}
 use Rattle.totals.specs.declared.Record.{Record}
 use Rattle.protocol.specs.Signals.{phase_after_signal, after_signal}
@@ -29,6 +26,7 @@ use Rattle.bus.specs.declared.Event.{Event}
 use Rattle.bus.specs.declared.Event.TheVariants as E
 use Rattle.bus.specs.declared.Reply.{Reply}
 use Rattle.bus.specs.declared.SignalEvent.{SignalEvent}
+use Rattle.replay.proofs.laws.Timed.{step_by}
 use Rattle.alone.specs.Alone.{only, alone, concerns, renamed}
 use Rattle.alone.proofs.laws.Only.{only_phase, only_there, only_after, only_with, only_record, only_well}
 
@@ -42,9 +40,9 @@ module _ (b : Bus) (i : ℕ) (h : bus_ok b ≡ true) (there : has_device b i ≡
 
   -- ---- what does not concern it
 
-  added_left : (found : Lookup) (address : ℕ) → alone i (added_to b found address) ≡ alone i b
-  added_left Unknown address = refl
-  added_left (Known chip) address = ap (only b.phase) (added_at b _ i (below_eight b i there) (λ e. omega (arith, below_count b i there)))
+  added_left : (found : Option Chip) (address : ℕ) → alone i (added_to b found address) ≡ alone i b
+  added_left None address = refl
+  added_left (Some chip) address = ap (only b.phase) (added_at b _ i (below_eight b i there) (λ e. omega (arith, below_count b i there)))
 
   other_left : (dev : ℕ) (c : Change) → (dev ≡ i → ⊥) → NoneHolds (step_refusals b (E.Change dev c)) → alone i (with_record b dev (after_change (record_at b dev) c)) ≡ alone i b
   unfolding step_refusals
@@ -60,11 +58,7 @@ module _ (b : Bus) (i : ℕ) (h : bus_ok b ≡ true) (there : has_device b i ≡
   done_left (E.Ask dev q) o m = refl
 
   pub step_left : (e : Event) → concerns i e ≡ false → alone i (step_reply b e).bus ≡ alone i b
-  step_left e o =
-      elim (tested (eqb (step_reply b e).code 0)) [
-        | holds t ↦ let d = done b e (eqb-true _ 0 t) in ap (λ (r : Reply). alone i r.bus) d.1 ∙ done_left e o d.0
-        | fails t ↦ ap (alone i) (stays b e (eqb-false _ 0 t))
-      ]
+  step_left e o = step_by b e (λ r. alone i r.bus ≡ alone i b) (λ z n. done_left e o n) (λ n. refl)
 
   -- ---- what concerns it
 
@@ -112,14 +106,6 @@ module _ (b : Bus) (i : ℕ) (h : bus_ok b ≡ true) (there : has_device b i ≡
 
     pub step_alone : (e : Event) → concerns i e ≡ true → (step_reply (alone i b) (renamed e)).bus ≡ alone i (step_reply b e).bus
     step_alone e o =
-        elim (tested (eqb (step_reply b e).code 0)) [
-          | holds t ↦
-              let z = eqb-true _ 0 t in
-              let d = done b e z in
-              ap (λ (r : Reply). r.bus) (done (alone i b) (renamed e) (code_alone e o ∙ z)).1
-              ∙ done_alone e o d.0
-              ∙ ap (λ (r : Reply). alone i r.bus) (sym d.1)
-          | fails t ↦
-              let n = eqb-false _ 0 t in
-              stays (alone i b) (renamed e) (λ z. n (sym (code_alone e o) ∙ z)) ∙ ap (alone i) (sym (stays b e n))
-        ]
+        step_by b e (λ r. (step_reply (alone i b) (renamed e)).bus ≡ alone i r.bus)
+        (λ z n. ap (λ (r : Reply). r.bus) (done (alone i b) (renamed e) (code_alone e o ∙ z)).1 ∙ done_alone e o n)
+        (λ n. stays (alone i b) (renamed e) (λ z. n (sym (code_alone e o) ∙ z)))

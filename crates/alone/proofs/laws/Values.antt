@@ -1,19 +1,14 @@
 -- What the master hears from the device alone and from all: the value of an event on both.
-use Rattle.std.specs.Prelude.{◌≡◌, Bool, false, ◌&&◌, ℕ, ◌≤◌, ◌<◌, length, take}
-use Rattle.std.proofs.Math.Path.{refl, sym, ap}
-use Rattle.std.proofs.Common.{◌∙◌, true≢false, arith}
-use Rattle.std.proofs.Math.Bool.{true, and_assoc, cond}
+use Rattle.std.specs.Prelude.{◌≡◌, Bool, false, ◌&&◌, ℕ, ◌≤◌, ◌<◌, length, take, refl, true, cond, eqb}
+use Rattle.std.proofs.Common.{sym, ap, ◌∙◌, true≢false, arith, add-zero, eqb-true, lt-ltb, ne_eqb}
+use Rattle.std.proofs.Math.Bool.{and_assoc}
 use Rattle.std.proofs.lemmas.Bool.{false≢true}
-use Rattle.std.proofs.Math.Nat.{add-zero}
-use Rattle.std.proofs.Math.Dec.{eqb}
-use borrow.Author.Tests.{eqb-true, eqb-false, lt-ltb}
 use Rattle.basics.specs.Below.{all_below}
 use Rattle.basics.specs.Bits.{bit, mask_first}
 use Rattle.basics.specs.First.{and_first}
 use Rattle.basics.specs.laws.Below.{below_at, below_and, below_alike}
 use Rattle.basics.specs.laws.Bits.{first_bit, and_bit, no_bit}
 use Rattle.basics.specs.laws.First.{and_bits, all_places}
-use Rattle.basics.specs.laws.Logic.{holds, fails, tested}
 use Rattle.chip.specs.declared.Chip.TheVariants.{Pca9635}
 use Rattle.device.specs.Reset.{fresh}
 use Rattle.totals.specs.declared.Record.{Record}
@@ -29,8 +24,8 @@ use Rattle.bus.proofs.laws.Steps.{done, below_count}
 use Rattle.bus.specs.declared.Bus.{Bus}
 use Rattle.bus.specs.declared.Event.{Event}
 use Rattle.bus.specs.declared.Event.TheVariants as E
-use Rattle.bus.specs.declared.Reply.{Reply}
 use Rattle.bus.specs.declared.SignalEvent.TheVariants as S
+use Rattle.replay.proofs.laws.Timed.{step_by}
 use Rattle.alone.specs.Alone.{only, alone, Present, concerns, renamed, is_transfer, get_reply}
 use Rattle.alone.proofs.laws.Step.{alone_record, code_alone}
 
@@ -38,11 +33,8 @@ use Rattle.alone.proofs.laws.Step.{alone_record, code_alone}
 get_bit : (x : Bus) (ack k : ℕ) → bit k (get_reply x ack).value ≡ (eqb (get_reply x ack).code 0 && bit k (and_first x.count talk_of x.devices))
 unfolding step_done
 get_bit x ack k =
-    let e = E.Signal (S.Get ack) in
-    elim (tested (eqb (get_reply x ack).code 0)) [
-      | holds t ↦ rw t (ap (λ (r : Reply). bit k r.value) (done x e (eqb-true _ 0 t)).1)
-      | fails t ↦ rw t (ap (λ (r : Reply). bit k r.value) (refused_same x e (eqb-false _ 0 t)) ∙ no_bit k)
-    ]
+    step_by x (E.Signal (S.Get ack)) (λ r. bit k r.value ≡ (eqb r.code 0 && bit k (and_first x.count talk_of x.devices))) (λ z n. refl)
+    (λ n. rw (ne_eqb _ 0 n) (no_bit k))
 
 module _ (i : ℕ) (b : Bus) (p : Present i b) where
   wide : b.count ≤ length b.devices
@@ -52,10 +44,8 @@ module _ (i : ℕ) (b : Bus) (p : Present i b) where
   values_alone : (P : ℕ → ℕ → Type 0) (e : Event) → concerns i e ≡ true → P 0 0 → P (step_done (alone i b) (renamed e)).value (step_done b e).value → P (step_reply (alone i b) (renamed e)).value (step_reply b e).value
   values_alone P e o z d =
       let same = code_alone b i p.0 p.1.0 e o in
-      elim (tested (eqb (step_reply b e).code 0)) [
-        | holds t ↦ let c = eqb-true _ 0 t in rw ((done b e c).1, (done (alone i b) (renamed e) (same ∙ c)).1) d
-        | fails t ↦ let n = eqb-false _ 0 t in rw (refused_same b e n, refused_same (alone i b) (renamed e) (λ c. n (sym same ∙ c))) z
-      ]
+      step_by b e (λ r. P (step_reply (alone i b) (renamed e)).value r.value) (λ c n. rw (done (alone i b) (renamed e) (same ∙ c)).1 d)
+      (λ n. rw (refused_same (alone i b) (renamed e) (λ c. n (sym same ∙ c))) z)
 
   -- ---- a put
 

@@ -1,10 +1,12 @@
 -- A set of positions as a number: what a loop over them starts with, what a turn adds, what it ends with; and its bits.
+use Rattle.std.proofs.lemmas.List.{take_all}
 use Rattle.std.specs.Prelude.{ℕ, zero, suc, min, ◌+◌, ◌*◌, ◌/◌, ◌%◌, ◌^◌, ◌≤◌, ◌<◌, ◌≡◌, Bool, true, false, ◌&&◌, cond, List, [], ◌∷◌, eqb, ltb, length, take, get_or}
 use Rattle.std.proofs.Math.Path.{refl}
-use Rattle.std.proofs.Common.{◌∙◌, ⊎_elim, add-one, le_of_suc-le-suc, eq-zero-or-pos, mul-one, add-mul, pow-suc, mul_assoc, div-one, arith, pow_mono, length-take-le, ltb-true, lt-ltb, le-ltb}
+use Rattle.std.proofs.Common.{◌∙◌, ⊎_elim, add-one, le_of_suc-le-suc, eq-zero-or-pos, mul-one, add-mul, pow-suc, mul_assoc, add_comm, div-one, arith, pow_mono, length-take-le, ltb-true, lt-ltb, le-ltb}
 use Rattle.std.proofs.Math.Nat.{pow-succ', one-mul, zero-div, div-div-eq-div-mul}
-use Rattle.std.specs.Int.Bits.{bit_and, and_step}
-use Rattle.std.proofs.lemmas.Nat.{and_shr}
+use Rattle.std.specs.Int.{from_bool}
+use Rattle.std.specs.Int.Bits.{bit_and, bit_or, and_step}
+use Rattle.std.proofs.lemmas.Nat.{and_shr, or_comm, or_shifted}
 use Rattle.std.proofs.Math.Dec.{leb-suc-suc}
 use Rattle.std.proofs.Math.Seq.{get_or-take}
 use Rattle.basics.specs.Bits.{bit, mask, mask_first}
@@ -17,6 +19,14 @@ twice w i = simp (add-mul, pow-suc, ← mul_assoc) (omega arith)
 cond_le : (b : Bool) (w : ℕ) → cond b w 0 ≤ w
 cond_le true w = omega arith
 cond_le false w = omega arith
+
+bool_weight : (b : Bool) (w : ℕ) → from_bool b * w ≡ cond b w 0
+bool_weight true w = omega arith
+bool_weight false w = omega arith
+
+byte_shifted : (b : Bool) (w : ℕ) → w ≤ 128 → from_bool b * w % 2 ^ 64 ≡ from_bool b * w
+byte_shifted true w h = omega arith
+byte_shifted false w h = omega arith
 
 -- a bit weighs at most its weight
 pub weight_most : (b : Bool) (r w : ℕ) → r ≡ cond b w 0 → r ≤ w
@@ -96,8 +106,21 @@ module _ {A : Type 0} (p : A → Bool) where
   unfolding mask_first
   mask_more z l i m w r on h e q u v = rw (add-one, mask_suc z 1 l i h, one-mul, v, u, q, e)
 
+  -- and so does a turn that sets bit i in a word
+  pub mask_or : (z : A) (l : List A) (i m : ℕ) (on : Bool) → i < length l → i < 8 → m ≡ mask_first i p l → on ≡ p (get_or l i z) → bit_or m (from_bool on * 2 ^ i % 2 ^ 64) ≡ mask_first (i + 1) p l
+  mask_or z l i m on h k e q =
+      let w : 2 ^ i ≤ 2 ^ 7 = pow_mono (le_of_suc-le-suc k) in
+      let below : m < 2 ^ i = omega (arith, mask_small l i) in
+      rw (byte_shifted on (2 ^ i) w, or_comm m (from_bool on * 2 ^ i), or_shifted (from_bool on) i m below, add_comm (from_bool on * 2 ^ i) m)
+      (mask_more z l i m (2 ^ i) (from_bool on * 2 ^ i) on h refl e q (bool_weight on (2 ^ i)))
+
   pub mask_done : (l : List A) (m i n : ℕ) → i ≤ n → n ≤ i → m ≡ mask_first i p l → m ≡ mask_first n p l
   mask_done l m i n h k e = let q : n ≡ i = omega arith in rw q e
+
+  -- over the first n elements alone
+  pub mask_whole : (n : ℕ) (l : List A) (m i : ℕ) → length (take n l) ≤ i → m ≡ mask_first i p (take n l) → m ≡ mask_first n p l
+  unfolding mask_first
+  mask_whole n l m i h e = rw (e, take_all i (take n l) h) refl
 
   mask_twice : (w : ℕ) (l : List A) → mask (w + w) p l ≡ 2 * mask w p l
   mask_twice w [] = refl

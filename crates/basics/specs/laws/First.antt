@@ -1,6 +1,7 @@
 -- The first n elements of a list, for any element, function and test: what a loop over them starts with, what a turn adds, what it ends with; and what keeps a test of all.
+use Rattle.std.proofs.lemmas.List.{drop_all, take_all, append-nil}
 use Prim.Native.Nat.{ℕ, zero, suc, ◌+◌, ◌≤◌, ◌<◌}
-use Rattle.std.specs.Prelude.{◌≡◌, Bool, true, false, not, ◌&&◌, length, take, get_or, set, replicate}
+use Rattle.std.specs.Prelude.{◌≡◌, Bool, true, false, not, ◌&&◌, length, take, get_or, set, replicate, drop, map}
 use Rattle.std.proofs.Math.Path.{refl, sym, ap}
 use Rattle.std.proofs.Common.{◌∙◌, add-one, le_of_suc-le-suc, arith, take-suc}
 use Rattle.std.proofs.Math.Bool.{and-true, and-false, and_assoc}
@@ -56,6 +57,11 @@ module _ {A : Type 0} (f : A → A) where
 
   pub map_done : (l now : List A) (i n : ℕ) → i ≤ n → n ≤ i → now ≡ map_first i f l → now ≡ map_first n f l
   map_done l now i n h k e = let q : n ≡ i = omega arith in rw q e
+
+  -- a loop over the first n elements alone, with what stands behind them
+  pub map_whole : (n : ℕ) (l now : List A) (i : ℕ) → length (take n l) ≤ i → now ≡ map_first i f (take n l) → now ++ drop n l ≡ map_first n f l
+  unfolding map_first
+  map_whole n l now i h e = rw (e, take_all i (take n l) h, drop_all i (take n l) h, append-nil (map f (take n l))) refl
 
 -- ---- a test of each
 

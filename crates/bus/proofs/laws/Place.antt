@@ -1,13 +1,16 @@
 -- A change or a question at a position: its code is that of the position or of the device there, and what one that is not refused comes with.
 use Rattle.std.specs.Prelude.{◌≡◌, Bool, true, false, cond, List, ◌++◌, ℕ, ◌%◌, ◌≤◌, ◌<◌, ltb, eqb, length}
 use Rattle.std.proofs.Math.Path.{refl}
-use Rattle.std.proofs.Common.{sym, arith, eqb-true, leb-false, lt-ltb, ltb-true, ltb-false}
+use Rattle.std.proofs.Common.{sym, arith, eqb-true, leb-false, lt-ltb, ltb-true, ltb-false, ◌∙◌}
 use Rattle.std.proofs.lemmas.Bool.{eqb-false, not-false}
 use Rattle.basics.specs.laws.Logic.{holds, fails, tested, and_right}
 use Rattle.chip.specs.Kinds.{outputs_of}
 use Rattle.chip.specs.laws.Registers.{outputs_few}
 use Rattle.device.specs.declared.Device.{Device}
 use Rattle.totals.specs.declared.Record.{Record}
+use Rattle.refusals.specs.Reasons.{number}
+use Rattle.refusals.specs.laws.Reasons.{number_positive}
+use Rattle.refusals.specs.declared.Reason.{Reason}
 use Rattle.refusals.specs.Refusals.{Refusal, least, code_of}
 use Rattle.refusals.specs.laws.Refusals.{refused_both, above, code_first, accepted}
 use Rattle.bus.specs.Devices.{bus_ok, has_device, device_at, record_at, with_device}
@@ -51,6 +54,10 @@ changes_above r Reset = refl
 
 pub position_first : (b : Bus) (dev : ℕ) (own : List Refusal) → above 4 own ≡ true → (code_of (place_refusals b dev) ≡ 0 → ⊥) → code_of (place_refusals b dev ++ own) ≡ code_of (place_refusals b dev)
 position_first b dev own h p = code_first (place_refusals b dev) own 4 p (position_few b dev) h
+
+pub position_refused : (b : Bus) (dev : ℕ) (own : List Refusal) (reason : Reason) → above 4 own ≡ true → number reason ≡ code_of (place_refusals b dev) → number reason ≡ code_of (place_refusals b dev ++ own)
+position_refused b dev own reason h e =
+    e ∙ sym (position_first b dev own h (λ z. let n = number_positive reason in omega (arith, e, z)))
 
 -- a position without a number has a device, and is one of the eight
 pub position_there : (b : Bus) (dev : ℕ) → code_of (place_refusals b dev) ≡ 0 → (has_device b dev ≡ true) × (bus_ok b ≡ true) × (dev < 8)

@@ -1,13 +1,12 @@
 -- One event, by its code: accepted, no refusal holds and it is done; refused, the bus stays. A device stays where it is, and of its kind, and one that is added stands at the next position.
-use Rattle.std.specs.Prelude.{◌≡◌, true, false, ℕ, ◌+◌, ◌≤◌, ◌<◌, ltb, eqb}
+use Rattle.std.specs.Prelude.{Option, Some, None, ◌≡◌, true, false, ℕ, ◌+◌, ◌≤◌, ◌<◌, ltb, eqb}
 use Rattle.std.proofs.Math.Path.{refl}
 use Rattle.std.proofs.Common.{sym, ap, subst, true≢false, le_refl, arith, get_or-set_other}
 use borrow.Author.Tests.{eqb-true, eqb-false, leb-false, ltb-true, lt-ltb, not-false}
 use Rattle.basics.specs.laws.Logic.{holds, fails, tested, and_left, and_right}
 use Rattle.basics.specs.laws.First.{map_keeps}
+use Rattle.chip.specs.declared.Chip.{Chip}
 use Rattle.chip.specs.Kinds.{chip_numbered, is_unknown}
-use Rattle.chip.specs.declared.Lookup.{Lookup}
-use Rattle.chip.specs.declared.Lookup.TheVariants.{Known, Unknown}
 use Rattle.device.specs.declared.Device.{Device}
 use Rattle.protocol.specs.Signals.{after_signal}
 use Rattle.protocol.proofs.laws.Kind.{signal_kind}
@@ -45,9 +44,9 @@ module _ (b : Bus) (dev : ℕ) (h : bus_ok b ≡ true) (there : has_device b dev
   abbrev pub Stands : Bus → Type 0
   Stands x = (has_device x dev ≡ true) × ((device_at x dev).chip ≡ (device_at b dev).chip)
 
-  added_stands : (found : Lookup) (address : ℕ) → Stands (added_to b found address)
-  added_stands Unknown address = (there, refl)
-  added_stands (Known chip) address = (
+  added_stands : (found : Option Chip) (address : ℕ) → Stands (added_to b found address)
+  added_stands None address = (there, refl)
+  added_stands (Some chip) address = (
     rw (lt-ltb dev (b.count + 1) (omega (arith, below_count b dev there)), lt-ltb dev 8 (below_eight b dev there)) refl,
     ap (λ (d : Device). d.chip) (get_or-set_other b.devices b.count dev _ _ (λ e. omega (arith, below_count b dev there))),
   )
@@ -68,9 +67,9 @@ module _ (b : Bus) (dev : ℕ) (h : bus_ok b ≡ true) (there : has_device b dev
 
 -- ---- a device that is added
 
-known_added : (b : Bus) (found : Lookup) (address : ℕ) → is_unknown found ≡ false → (added_to b found address).count ≡ b.count + 1
-known_added b Unknown address u = absurd (true≢false u)
-known_added b (Known chip) address u = refl
+known_added : (b : Bus) (found : Option Chip) (address : ℕ) → is_unknown found ≡ false → (added_to b found address).count ≡ b.count + 1
+known_added b None address u = absurd (true≢false u)
+known_added b (Some chip) address u = refl
 
 module _ (b : Bus) (chip addr : ℕ) (z : (step_reply b (E.Add chip addr)).code ≡ 0) where
   pub added_count : (step_reply b (E.Add chip addr)).bus.count ≡ b.count + 1
@@ -85,9 +84,9 @@ module _ (b : Bus) (chip addr : ℕ) (z : (step_reply b (E.Add chip addr)).code 
 
 -- ---- the number of devices never falls
 
-known_grows : (b : Bus) (found : Lookup) (address : ℕ) → b.count ≤ (added_to b found address).count
-known_grows b Unknown address = le_refl b.count
-known_grows b (Known chip) address = omega arith
+known_grows : (b : Bus) (found : Option Chip) (address : ℕ) → b.count ≤ (added_to b found address).count
+known_grows b None address = le_refl b.count
+known_grows b (Some chip) address = omega arith
 
 done_grows : (b : Bus) (e : Event) → b.count ≤ (step_done b e).bus.count
 unfolding step_done

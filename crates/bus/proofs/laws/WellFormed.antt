@@ -1,15 +1,14 @@
 -- A well-formed bus: what it is, and that what an accepted event makes of it is one too.
-use Rattle.std.specs.Prelude.{◌≡◌, true, false, not, ◌&&◌, ℕ, ◌+◌, leb, ltb, eqb, length}
+use Rattle.std.specs.Prelude.{Option, Some, None, ◌≡◌, true, false, not, ◌&&◌, ℕ, ◌+◌, leb, ltb, eqb, length}
 use Rattle.std.proofs.Math.Path.{refl}
 use Rattle.std.proofs.Common.{sym, ap, ◌∙◌, true≢false, add-one, arith, length-set, leb-true, leb-false, le-leb, ltb-true}
 use Rattle.std.proofs.Math.Bool.{or-false}
 use Rattle.std.proofs.lemmas.Bool.{not-false}
 use Rattle.basics.specs.laws.Logic.{holds, fails, tested, and_left, and_right}
+use Rattle.chip.specs.declared.Chip.{Chip}
 use Rattle.chip.specs.Kinds.{chip_numbered}
 use Rattle.chip.specs.Addresses.{address_allowed, is_barred}
 use Rattle.chip.specs.declared.Chip.TheVariants.{Pca9635}
-use Rattle.chip.specs.declared.Lookup.{Lookup}
-use Rattle.chip.specs.declared.Lookup.TheVariants.{Known, Unknown}
 use Rattle.device.specs.Reset.{fresh}
 use Rattle.device.specs.WellFormed.{well_formed}
 use Rattle.device.proofs.Promises.{fresh_well, reset_well, reset_kind, oe_well, levels_well, waited_shape}
@@ -98,9 +97,9 @@ after_well s b t h =
       totals = fits_kinds (bus_after s b).devices b.devices b.lit b.unlit b.count (λ i. map_keeps (after_signal b.phase s) (λ (d : Device). d.chip) (signal_kind b.phase s) _ b.count b.devices i) ∙ (well b h).totals;
     })
 
-added_well : (b : Bus) (found : Lookup) (address : ℕ) → bus_ok b ≡ true → is_barred found address ≡ false → leb 8 b.count ≡ false → bus_ok (added_to b found address) ≡ true
-added_well b Unknown address h k f = h
-added_well b (Known chip) address h k f =
+added_well : (b : Bus) (found : Option Chip) (address : ℕ) → bus_ok b ≡ true → is_barred found address ≡ false → leb 8 b.count ≡ false → bus_ok (added_to b found address) ≡ true
+added_well b None address h k f = h
+added_well b (Some chip) address h k f =
     is_well (with_added b (fresh chip address))
     (record {
       few = le-leb (b.count + 1) 8 (omega (arith, leb-false 8 b.count f));
@@ -220,9 +219,9 @@ done_code b (E.Change dev c) = refl
 done_code b (E.Ask dev q) = refl
 
 -- no event changes how many places there are
-added_places : (b : Bus) (found : Lookup) (address : ℕ) → length (added_to b found address).devices ≡ length b.devices
-added_places b Unknown address = refl
-added_places b (Known chip) address = length-set b.devices b.count (fresh chip address)
+added_places : (b : Bus) (found : Option Chip) (address : ℕ) → length (added_to b found address).devices ≡ length b.devices
+added_places b None address = refl
+added_places b (Some chip) address = length-set b.devices b.count (fresh chip address)
 
 pub done_places : (b : Bus) (e : Event) → length (step_done b e).bus.devices ≡ length b.devices
 unfolding step_done

@@ -1,48 +1,49 @@
 -- Lent state: what stands at a position, what one device stored there makes of the devices, and copies.
-use Rattle.std.specs.Prelude.{ℕ, ◌+◌, ◌-◌, ◌*◌, ◌<◌, ◌≡◌, refl, Bool, true, false, List, [], ◌∷◌, ◌++◌, eqb, length, get_or, set, take, drop}
+use Rattle.std.specs.Prelude.{ℕ, ◌+◌, ◌-◌, ◌*◌, ◌<◌, ◌≡◌, refl, Bool, true, false, List, [], ◌∷◌, ◌++◌, eqb, length, get_or, set, take, drop, map}
+use Rattle.std.specs.List.{range_with_len}
+use Rattle.std.specs.Int.{from_bool}
 use Rattle.std.proofs.Common.{sym, ap, ◌∙◌, arith, length-drop, take_at, drop_at, length-take-le, get_or-set_same, get_or-set_other}
+use Rattle.std.proofs.lemmas.List.FromFn.{length-map-range_with_len, get_or-map-range_with_len}
 use Rattle.basics.specs.Parts.{part, with_part}
-use Rattle.engine.specs.Tabulate.{tabulate}
-use Rattle.engine.specs.laws.Tabulate.{length-tabulate, tabulate_at, tabulate-set}
 use Rattle.basics.specs.First.{map_first}
 use Rattle.basics.specs.laws.First.{map_more}
-use Rattle.engine.specs.laws.Lists.{map_rest}
+use Rattle.engine.specs.laws.Lists.{map_rest, range-set}
 use Rattle.device.specs.Fields.{with_count}
 use Rattle.device.specs.Reset.{fresh}
 use Rattle.basics.specs.laws.Parts.{part_same, part_other, slice_is, slice_long, slice_back, with_part_long}
-use Rattle.chip.specs.declared.Chip.{Chip}
-use Rattle.chip.specs.declared.Chip.TheVariants.{Pca9635, Pca9634, Pca9531, Pca9551}
+use Rattle.chip.specs.Kinds.{chip_of}
+use Rattle.chip.specs.declared.Chip.TheVariants.{Pca9635}
 use Rattle.device.specs.declared.Device.{Device}
 use Rattle.device.specs.declared.Stage.{Stage}
 use Rattle.device.specs.declared.Stage.TheVariants.{Unselected, Control, Data, Talking, ResetCall, ResetFirst, ResetBoth}
 use Rattle.bus.specs.declared.Bus.{Bus}
-use Rattle.engine.specs.Lens.{chip_of, chip_byte, stage_of, stage_byte, bit_of, device_of, devices_of, bus_of}
+use Rattle.engine.specs.Lens.{stage_of, stage_byte, device_of, devices_of, device_in, bus_of}
 
 -- ---- the devices
 
 pub devices_long : (bytes counts : List ℕ) → length (devices_of bytes counts) ≡ 8
 unfolding devices_of
-devices_long bytes counts = length-tabulate 8 _
+devices_long bytes counts = length-map-range_with_len (λ i. device_of (part 64 i bytes) (get_or counts i 0)) 0 8
 
 pub lens_get : (z : Device) (bytes counts : List ℕ) (i : ℕ) → i < 8 → get_or (devices_of bytes counts) i z ≡ device_of (part 64 i bytes) (get_or counts i 0)
 unfolding devices_of
-lens_get z bytes counts i h = tabulate_at z 8 _ i h
+lens_get z bytes counts i h = get_or-map-range_with_len (λ i. device_of (part 64 i bytes) (get_or counts i 0)) 0 8 i i z h (omega arith)
 
 pub lens_set : (bytes counts : List ℕ) (i c : ℕ) (p : List ℕ) (d : Device) → i < 8 → length counts ≡ 8 → length p ≡ 64 → device_of p c ≡ d → devices_of (with_part 8 64 i p bytes) (set counts i c) ≡ set (devices_of bytes counts) i d
 unfolding devices_of
 lens_set bytes counts i c p d h l k e =
-    tabulate-set 8 (λ j. device_of (part 64 j bytes) (get_or counts j 0)) (λ j. device_of (part 64 j (with_part 8 64 i p bytes)) (get_or (set counts i c) j 0)) i h
+    range-set 8 (λ j. device_of (part 64 j bytes) (get_or counts j 0)) (λ j. device_of (part 64 j (with_part 8 64 i p bytes)) (get_or (set counts i c) j 0)) i h
     (λ j m n. rw (part_other 8 64 i j p bytes m n, get_or-set_other counts i j c 0 n) refl)
-    ∙ ap (set (tabulate 8 (λ j. device_of (part 64 j bytes) (get_or counts j 0))) i)
+    ∙ ap (set (map (λ j. device_of (part 64 j bytes) (get_or counts j 0)) (range_with_len 0 8)) i)
     (rw (part_same 8 64 i p bytes h k, get_or-set_same counts i c 0 (omega arith)) e)
 
 -- only its count
 pub lens_count : (bytes counts : List ℕ) (i c : ℕ) (d : Device) → i < 8 → length counts ≡ 8 → device_of (part 64 i bytes) c ≡ d → devices_of bytes (set counts i c) ≡ set (devices_of bytes counts) i d
 unfolding devices_of
 lens_count bytes counts i c d h l e =
-    tabulate-set 8 (λ j. device_of (part 64 j bytes) (get_or counts j 0)) (λ j. device_of (part 64 j bytes) (get_or (set counts i c) j 0)) i h
+    range-set 8 (λ j. device_of (part 64 j bytes) (get_or counts j 0)) (λ j. device_of (part 64 j bytes) (get_or (set counts i c) j 0)) i h
     (λ j m n. rw (get_or-set_other counts i j c 0 n) refl)
-    ∙ ap (set (tabulate 8 (λ j. device_of (part 64 j bytes) (get_or counts j 0))) i)
+    ∙ ap (set (map (λ j. device_of (part 64 j bytes) (get_or counts j 0)) (range_with_len 0 8)) i)
     (rw (get_or-set_same counts i c 0 (omega arith)) e)
 
 -- devices in their bytes are those of the bus
@@ -67,13 +68,12 @@ module _ (l : List ℕ) (i : ℕ) (long : length l ≡ 512) (h : i < 8) where
   pub given_long : (p : List ℕ) → length p ≡ 64 → length (take (64 * i) l ++ (p ++ drop (64 * i + 64 - 64 * i) (drop (64 * i) l))) ≡ 512
   given_long p k = rw (given_back p k) (with_part_long 8 64 i p l)
 
--- ---- a kind and a stage as a byte, and back
+-- the device at a position, as it is lent
+module _ (bytes counts : List ℕ) (i : ℕ) (long : length bytes ≡ 512) (h : i < 8) where
+  pub device_lent : device_of (lent bytes i long h) (get_or counts i 0) ≡ device_in bytes counts i
+  device_lent = rw (lent_is bytes i long h) (sym (lens_get (fresh Pca9635 0) bytes counts i h))
 
-pub chip_back : (c : Chip) → chip_of (chip_byte c) ≡ c
-chip_back Pca9635 = refl
-chip_back Pca9634 = refl
-chip_back Pca9531 = refl
-chip_back Pca9551 = refl
+-- ---- a stage as a byte, and back
 
 pub stage_back : (s : Stage) → stage_of (stage_byte s) ≡ s
 stage_back Unselected = refl
@@ -84,7 +84,7 @@ stage_back ResetCall = refl
 stage_back ResetFirst = refl
 stage_back ResetBoth = refl
 
-pub bit_back : (b : Bool) → eqb (bit_of b) 1 ≡ b
+pub bit_back : (b : Bool) → eqb (from_bool b) 1 ≡ b
 bit_back true = refl
 bit_back false = refl
 

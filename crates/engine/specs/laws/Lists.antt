@@ -1,7 +1,12 @@
--- Lists that a loop maps or copies, element by element.
-use Rattle.std.specs.Prelude.{◌≡◌, refl, List, [], ◌∷◌, ◌++◌, ℕ, zero, suc, ◌+◌, ◌<◌, length, get_or, set, take, drop}
-use Rattle.std.proofs.Common.{ap, ◌∙◌, append-nil, add-one, le_of_suc-le-suc, arith, drop_of_length-le, take_all}
+-- Lists that a loop maps or copies, element by element, and lists that are given by their elements.
+use Rattle.std.specs.Prelude.{◌≡◌, refl, List, [], ◌∷◌, ◌++◌, ℕ, zero, suc, ◌+◌, ◌<◌, eqb, length, get_or, set, take, drop, map}
+use Rattle.std.specs.List.{range_with_len}
+use Rattle.std.proofs.Common.{sym, ap, ◌∙◌, append-nil, add-one, le_of_suc-le-suc, arith, drop_of_length-le, take_all, ext_get_or, eqb-true, get_or-set_same, get_or-set_other}
+use Rattle.std.proofs.Math.ListN.{length-set}
+use Rattle.std.proofs.lemmas.Bool.{eqb-false}
+use Rattle.std.proofs.lemmas.List.FromFn.{length-map-range_with_len, get_or-map-range_with_len}
 use Rattle.basics.specs.First.{map_first}
+use Rattle.basics.specs.laws.Logic.{tested, holds, fails}
 
 -- an element behind those that are mapped stays
 pub map_rest : {A : Type 0} (f : A → A) (z : A) (l : List A) (i : ℕ) → get_or (map_first i f l) i z ≡ get_or l i z
@@ -26,3 +31,19 @@ module _ {A : Type 0} (z : A) where
 pub copy_done : {A : Type 0} (from onto now : List A) (i : ℕ) → length from ≡ i → length onto ≡ i → now ≡ take i from ++ drop i onto → now ≡ from
 copy_done {A} from onto now i h k e =
     e ∙ ap (λ (t : List A). t ++ drop i onto) (take_all i from (omega arith)) ∙ rw (drop_of_length-le onto {i = i} (omega arith), append-nil) refl
+
+-- ---- a list that is given by its elements, one of them replaced
+
+pub range-set : {A : Type 0} (n : ℕ) (f g : ℕ → A) (i : ℕ) → i < n → ((j : ℕ) → j < n → (j ≡ i → ⊥) → g j ≡ f j) → map g (range_with_len 0 n) ≡ set (map f (range_with_len 0 n)) i (g i)
+range-set {A} n f g i h others =
+    ext_get_or (g i) (map g (range_with_len 0 n)) (set fs i (g i)) (length-map-range_with_len g 0 n ∙ sym (length-set fs i (g i) ∙ long))
+    (λ j lt. let k : j < n = rw (length-map-range_with_len g 0 n) at lt in get_or-map-range_with_len g 0 n j j (g i) k (omega arith) ∙ elim (tested (eqb j i)) [
+      | holds t ↦ rw (eqb-true j i t) (sym (get_or-set_same fs i (g i) (g i) (rw long h)))
+      | fails t ↦ others j k (eqb-false j i t) ∙ sym (get_or-set_other fs i j (g i) (g i) (eqb-false j i t) ∙ get_or-map-range_with_len f 0 n j j (g i) k (omega arith))
+    ])
+  where
+    fs : List A
+    fs = map f (range_with_len 0 n)
+
+    long : length fs ≡ n
+    long = length-map-range_with_len f 0 n

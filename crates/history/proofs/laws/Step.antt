@@ -1,15 +1,12 @@
 -- One event: what it adds to an output's totals, and which leave them.
-use Rattle.std.specs.Prelude.{◌≡◌, true, false, List, ℕ, ◌+◌, ◌-◌, ◌≤◌, ◌<◌, leb, eqb, length, get_or}
-use Rattle.std.proofs.Math.Path.{refl, sym, ap, subst}
-use Rattle.std.proofs.Common.{◌∙◌, true≢false, add-zero}
+use Rattle.std.specs.Prelude.{Option, Some, None, ◌≡◌, true, false, List, ℕ, ◌+◌, ◌-◌, ◌≤◌, ◌<◌, leb, eqb, length, get_or, refl}
+use Rattle.std.proofs.Common.{sym, ap, subst, ◌∙◌, true≢false, add-zero, arith, eqb-true, eq-eqb, ne_eqb}
 use Rattle.std.proofs.Math.Bool.{and-false}
-use native.Mathlib.Omega.{arith}
-use borrow.Author.Tests.{eqb-true, eqb-false, eq-eqb, ne_eqb, lt-leb, not-false}
+use Rattle.std.proofs.lemmas.Bool.{eqb-false, not-false, lt-leb}
 use Rattle.basics.specs.laws.Logic.{holds, fails, tested, neither}
 use Rattle.lamp.specs.Window.{lit_ticks, counted_ticks, count_limit}
+use Rattle.chip.specs.declared.Chip.{Chip}
 use Rattle.chip.specs.Kinds.{chip_numbered, outputs_of}
-use Rattle.chip.specs.declared.Lookup.{Lookup}
-use Rattle.chip.specs.declared.Lookup.TheVariants.{Known, Unknown}
 use Rattle.device.specs.Output.{lit_now, lit_of}
 use Rattle.device.proofs.laws.Output.{lit_few}
 use Rattle.device.specs.Registers.{is_awake}
@@ -24,9 +21,9 @@ use Rattle.bus.specs.Add.{added_to}
 use Rattle.bus.specs.Signals.{signal_of}
 use Rattle.bus.specs.Place.{change_refusals, after_change, question_refusals, value_of}
 use Rattle.bus.specs.Events.{step_reply, step_refusals, step_done, lit_reply}
-use Rattle.bus.proofs.Promises.{step_code, refused_same}
+use Rattle.bus.proofs.Promises.{step_code}
 use Rattle.bus.proofs.laws.Records.{lit_here, unlit_here, record_other, added_at}
-use Rattle.bus.proofs.laws.Steps.{done, stays, below_count, below_eight}
+use Rattle.bus.proofs.laws.Steps.{done, below_count, below_eight}
 use Rattle.bus.proofs.laws.WellFormed.{change_kept}
 use Rattle.bus.specs.declared.Bus.{Bus}
 use Rattle.bus.specs.declared.Change.{Change}
@@ -35,6 +32,7 @@ use Rattle.bus.specs.declared.Event.{Event}
 use Rattle.bus.specs.declared.Event.TheVariants as E
 use Rattle.bus.specs.declared.Question.TheVariants as Q
 use Rattle.bus.specs.declared.Reply.{Reply}
+use Rattle.replay.proofs.laws.Timed.{step_by}
 use Rattle.history.specs.History.{lit_total, unlit_total, wait_of, wait_share, lit_share, is_waiting, is_wait_at}
 
 -- ---- the lit question
@@ -66,22 +64,12 @@ module _ (b : Bus) (dev out w : ℕ) where
 -- and nothing where no time is asked for
 lit_none : (b : Bus) (dev out : ℕ) → (lit_reply b dev out 0).value ≡ 0
 unfolding step_done value_of
-lit_none b dev out =
-    let e = E.Ask dev (Q.Lit out 0) in
-    elim (tested (eqb (step_reply b e).code 0)) [
-      | holds t ↦ ap (λ (r : Reply). r.value) (done b e (eqb-true _ 0 t)).1 ∙ none_lit (device_at b dev) out
-      | fails t ↦ ap (λ (r : Reply). r.value) (refused_same b e (eqb-false _ 0 t))
-    ]
+lit_none b dev out = step_by b (E.Ask dev (Q.Lit out 0)) (λ r. r.value ≡ 0) (λ z n. none_lit (device_at b dev) out) (λ n. refl)
 
 -- and no more than all of it
 pub lit_few_answered : (b : Bus) (dev out w : ℕ) → (lit_reply b dev out w).value ≤ w
 unfolding step_done value_of
-lit_few_answered b dev out w =
-    let e = E.Ask dev (Q.Lit out w) in
-    elim (tested (eqb (step_reply b e).code 0)) [
-      | holds t ↦ rw (ap (λ (r : Reply). r.value) (done b e (eqb-true _ 0 t)).1) (lit_few (device_at b dev) out w)
-      | fails t ↦ rw (ap (λ (r : Reply). r.value) (refused_same b e (eqb-false _ 0 t))) (omega arith)
-    ]
+lit_few_answered b dev out w = step_by b (E.Ask dev (Q.Lit out w)) (λ r. r.value ≤ w) (λ z n. lit_few (device_at b dev) out w) (λ n. omega arith)
 
 -- ---- what an event does to the record at a position where a device stands
 
@@ -90,9 +78,9 @@ module _ (b : Bus) (dev out : ℕ) (h : bus_ok b ≡ true) (there : has_device b
   few = below_eight b dev there
 
   -- an add leaves it
-  added_same : (found : Lookup) (address : ℕ) → record_at (added_to b found address) dev ≡ record_at b dev
-  added_same Unknown address = refl
-  added_same (Known chip) address = added_at b _ dev few (λ e. omega (arith, below_count b dev there))
+  added_same : (found : Option Chip) (address : ℕ) → record_at (added_to b found address) dev ≡ record_at b dev
+  added_same None address = refl
+  added_same (Some chip) address = added_at b _ dev few (λ e. omega (arith, below_count b dev there))
 
   -- a change of another device does
   other_same : (i : ℕ) (r : Record) → length r.lit ≡ 16 → length r.unlit ≡ 16 → (i ≡ dev → ⊥) → record_at (with_record b i r) dev ≡ record_at b dev
@@ -177,11 +165,7 @@ module _ (b : Bus) (dev out : ℕ) (h : bus_ok b ≡ true) (there : has_device b
     refused_share (E.Ask i q) n = refl
 
     pub step_adds : (e : Event) → Adds e (step_reply b e).bus
-    step_adds e =
-        elim (tested (eqb (step_reply b e).code 0)) [
-          | holds t ↦ let z = eqb-true _ 0 t in let d = done b e z in subst (λ (x : Bus). Adds e x) (ap (λ (r : Reply). r.bus) (sym d.1)) (accepted_adds e z d.0)
-          | fails t ↦ let n = eqb-false _ 0 t in same_record e (step_reply b e).bus (ap (λ (x : Bus). record_at x dev) (stays b e n)) (refused_share e n)
-        ]
+    step_adds e = step_by b e (λ r. Adds e r.bus) (accepted_adds e) (λ n. same_record e b refl (refused_share e n))
 
   -- ---- any event but a wait of this device leaves its totals
 
@@ -220,8 +204,4 @@ module _ (b : Bus) (dev out : ℕ) (h : bus_ok b ≡ true) (there : has_device b
   done_same (E.Ask i q) w m = (refl, refl)
 
   pub step_same : (e : Event) → is_wait_at dev e ≡ false → Same (step_reply b e).bus
-  step_same e w =
-      elim (tested (eqb (step_reply b e).code 0)) [
-        | holds t ↦ let d = done b e (eqb-true _ 0 t) in subst Same (ap (λ (r : Reply). r.bus) (sym d.1)) (done_same e w d.0)
-        | fails t ↦ subst Same (sym (stays b e (eqb-false _ 0 t))) (refl, refl)
-      ]
+  step_same e w = step_by b e (λ r. Same r.bus) (λ z n. done_same e w n) (λ n. (refl, refl))

@@ -4,7 +4,7 @@ use Rattle.std.proofs.Math.Dec.{ltb}
 use Rattle.lamp.specs.Window.{one_if, count_limit}
 use Rattle.lamp.specs.Driver.{blink_period, blink_on}
 use Rattle.lamp.specs.laws.Count.{duty_count}
-use Rattle.lamp.specs.declared.Group.{Group}
+use Rattle.lamp.specs.laws.Group.{Group}
 use Rattle.lamp.specs.declared.Shared.{Shared}
 use Rattle.lamp.specs.declared.Stretch.{Stretch}
 

@@ -34,9 +34,13 @@ got_length b n k = rw (values_length, length-map, length-tabulate)
 
 -- ---- the loop
 
-pub gets_none : (n : ℕ) (b : Bus) (l : List ℕ) → (b ≡ run_bus b (map Signal (gets_of n 0))) × (l ≡ values_of b (gets_of n 0) ++ drop 0 l)
+pub run_none : (n : ℕ) (b : Bus) → b ≡ run_bus b (map Signal (gets_of n 0))
+unfolding gets_of tabulate
+run_none n b = refl
+
+pub got_none : (n : ℕ) (b : Bus) (l : List ℕ) → l ≡ values_of b (gets_of n 0) ++ l
 unfolding gets_of tabulate values_of
-gets_none n b l = (refl, refl)
+got_none n b l = refl
 
 module _ (n : ℕ) (first now : Bus) (i ack : ℕ) (r : Reply) (e : now ≡ run_bus first (map Signal (gets_of n i))) (k : ack ≡ ack_at n i) (u : r ≡ step_reply now (Signal (Get ack))) where
   pub run_more : r.bus ≡ run_bus first (map Signal (gets_of n (i + 1)))
@@ -48,8 +52,8 @@ module _ (n : ℕ) (first now : Bus) (i ack : ℕ) (r : Reply) (e : now ≡ run_
       rw (add-one, q, gets_suc, values_append, ← e, ← k, ← u)
       (filled_more (values_of first (gets_of n i)) l i r.value (got_length first n i) h)
 
-pub gets_done : (n : ℕ) (s : Sent) (now : Bus) (l cur : List ℕ) (i : ℕ) → i ≤ n → n ≤ i → now ≡ run_bus s.bus (map Signal (gets_of n i)) → cur ≡ values_of s.bus (gets_of n i) ++ drop i l → (record { acks = s.acks; bus = now } ≡ sent_by s (gets_of n n)) × (cur ≡ values_of s.bus (gets_of n n) ++ drop n l)
+pub gets_done : (n : ℕ) (s : Sent) (now : Bus) (i : ℕ) → i ≤ n → n ≤ i → now ≡ run_bus s.bus (map Signal (gets_of n i)) → record { acks = s.acks; bus = now } ≡ sent_by s (gets_of n n)
 unfolding sent_by
-gets_done n s now l cur i h k e q =
+gets_done n s now i h k e =
     let z : i ≡ n = omega arith in
-    (rw (rw z at e, gets_acked, add-zero), rw z at q)
+    rw (rw z at e, gets_acked, add-zero)

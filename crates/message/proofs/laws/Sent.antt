@@ -1,7 +1,7 @@
 -- A message under way: what further events, the loop of the puts and the end of a message make of it.
-use Rattle.std.specs.Prelude.{ℕ, ◌+◌, ◌≤◌, ◌<◌, ◌≡◌, List, [], ◌∷◌, ◌++◌, map, length, take, get_or}
+use Rattle.std.specs.Prelude.{ℕ, ◌+◌, ◌<◌, ◌≡◌, List, [], ◌∷◌, ◌++◌, map, length, take, get_or}
 use Rattle.std.proofs.lemmas.List.{map-append}
-use Rattle.std.proofs.Common.{add-zero, zero-add, add_assoc, add-one, take_all, take-suc}
+use Rattle.std.proofs.Common.{add-zero, zero-add, add_assoc, add-one, take-suc}
 use Rattle.bus.specs.Events.{run_bus}
 use Rattle.bus.specs.declared.Bus.{Bus}
 use Rattle.bus.specs.declared.Event.TheVariants.{Signal}
@@ -22,15 +22,12 @@ under_way_bus b l s e = rw e
 
 -- ---- the loop of the puts
 
-pub puts_none : (s : Sent) (l : List ℕ) → s ≡ sent_by s (map Put (take 0 l))
+pub sent_none : (s : Sent) → s ≡ sent_by s []
 unfolding sent_by acked_puts
-puts_none s l = rw add-zero
+sent_none s = rw add-zero
 
 pub puts_more : (s now next : Sent) (l : List ℕ) (i : ℕ) → i < length l → now ≡ sent_by s (map Put (take i l)) → next ≡ sent_by now (Put (get_or l i 0) ∷ []) → next ≡ sent_by s (map Put (take (i + 1) l))
 puts_more s now next l i h e q = rw (add-one, take-suc l i 0 h, map-append, q, e) (sent_append s (map Put (take i l)) _)
-
-pub puts_done : (s now : Sent) (l : List ℕ) (i : ℕ) → length l ≤ i → now ≡ sent_by s (map Put (take i l)) → now ≡ sent_by s (map Put l)
-puts_done s now l i h e = rw (take_all i l h) at e
 
 -- ---- the end of a message
 

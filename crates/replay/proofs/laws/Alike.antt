@@ -1,6 +1,5 @@
 -- Time leaves what a bus is refused for, but for 6: its shape, its phase, and the kind of each device.
-use Rattle.std.specs.Prelude.{◌≡◌, ℕ, true, length}
-use Rattle.std.proofs.Math.Path.{refl}
+use Rattle.std.specs.Prelude.{Option, Some, None, ◌≡◌, ℕ, true, length, refl}
 use Rattle.std.proofs.Common.{sym, ◌∙◌, le_refl, ne_eqb}
 use Rattle.basics.specs.laws.Logic.{holds, fails, tested}
 use Rattle.lamp.specs.declared.DriverTicks.{DriverTicks}
@@ -20,15 +19,13 @@ use Rattle.bus.specs.declared.Event.{Event}
 use Rattle.bus.specs.declared.Event.TheVariants as E
 use Rattle.bus.specs.declared.Question.{Question}
 use Rattle.bus.specs.declared.Question.TheVariants as Q
-use Rattle.replay.specs.Time.{since, time_below, after_time}
+use Rattle.replay.specs.Time.{Clock, since, time_below, after_time}
 use Rattle.replay.specs.Replay.{timed_refusals, timed_reply, replayed}
 use Rattle.replay.specs.ByHand.{waits_below}
 use Rattle.replay.proofs.laws.Time.{below_count, below_phase, below_kind, below_places}
 use Rattle.replay.proofs.laws.Timed.{timed_positive}
 use Rattle.replay.proofs.laws.Waits.{waits_run}
-use Rattle.replay.specs.declared.Clock.{Clock}
 use Rattle.replay.specs.declared.Entry.{Entry}
-use Rattle.replay.specs.declared.Entry.TheVariants.{Stamped, Unknown}
 
 module _ (ticks : DriverTicks) (b : Bus) where
   -- what holds of the bus, and of one whose drivers have waited, holds once the time has passed
@@ -36,10 +33,11 @@ module _ (ticks : DriverTicks) (b : Bus) where
   unfolding after_time
   time_keeps P p q = elim (tested (bus_ok b)) [ holds e ↦ rw e (q e) | fails e ↦ rw e p ]
 
+  pub below_shape : bus_ok b ≡ true → bus_ok (time_below ticks b b.count) ≡ true
+  below_shape e = rw (← waits_run ticks b e b.count (le_refl b.count)) (run_well b (waits_below ticks b b.count) e)
+
   pub time_shape : bus_ok (after_time ticks b) ≡ bus_ok b
-  time_shape =
-      time_keeps (λ (x : Bus). bus_ok x ≡ bus_ok b) refl
-      (λ e. rw (← waits_run ticks b e b.count (le_refl b.count)) (run_well b (waits_below ticks b b.count) e ∙ sym e))
+  time_shape = time_keeps (λ (x : Bus). bus_ok x ≡ bus_ok b) refl (λ e. below_shape e ∙ sym e)
 
   pub time_count : (after_time ticks b).count ≡ b.count
   time_count = time_keeps (λ (x : Bus). x.count ≡ b.count) refl (λ e. below_count ticks b b.count)
@@ -76,10 +74,10 @@ module _ (k : ℕ) (other : k ≡ 6 → ⊥) where
   event_alike ticks b (E.Ask dev q) = rw (time_shape ticks b, time_count ticks b, questions_alike q (device_at (after_time ticks b) dev) (device_at b dev) (time_kind ticks b dev))
 
 -- no entry changes how many places a bus has
-pub replay_places : (b : Bus) (clock : Clock) (x : Entry) → length (replayed b clock x).reply.bus.devices ≡ length b.devices
+pub replay_places : (b : Bus) (clock : Clock) (x : Option Entry) → length (replayed b clock x).reply.bus.devices ≡ length b.devices
 unfolding replayed timed_reply
-replay_places b clock (Stamped at e) =
-    let ticks = since clock at in
-    answer_bus (timed_refusals ticks b e) b _ (λ (y : Bus). length y.devices ≡ length b.devices) (timed_positive ticks b e) refl
-    (λ n. done_places (after_time ticks b) e ∙ time_places ticks b)
-replay_places b clock Unknown = refl
+replay_places b clock (Some x) =
+    let ticks = since clock x.at in
+    answer_bus (timed_refusals ticks b x.event) b _ (λ (y : Bus). length y.devices ≡ length b.devices) (timed_positive ticks b x.event) refl
+    (λ n. done_places (after_time ticks b) x.event ∙ time_places ticks b)
+replay_places b clock None = refl

@@ -1,9 +1,7 @@
--- Some turns lead from the row and the exchange as they stand to what the contract says.
-use Rattle.row.proofs.Passes.{Leads, left}
+-- The records so far have the devices that the bus leaves.
+use Rattle.std.specs.Prelude.{◌≡◌, ◌++◌, take, drop}
+use Rattle.row.specs.Row.{refitted}
 use Rattle.row.proofs.event.Given as goal
 
-abbrev pub invariant-loop-x : goal.invariant-loop-x
-invariant-loop-x l = Leads l.initial.row l.fn.phase l.fn.event l.row l.x
-
-abbrev pub decreases-loop-x : goal.decreases-loop-x
-decreases-loop-x l = left l.x
+abbrev pub invariant-loop-i : goal.invariant-loop-i
+invariant-loop-i l = l.row ≡ refitted (take l.i l.initial.row) l.devices ++ drop l.i l.initial.row

@@ -1,4 +1,4 @@
--- `row::waited_record` meets its contract: the number is taken in the device's own unit.
+-- The number is taken in the device's own unit.
 use Rattle.std.proofs.Common.{sym, ap, ◌∙◌}
 use Rattle.std.proofs.Math.Path.{refl}
 use Rattle.refusals.specs.laws.Refusals.{accepted}
@@ -7,8 +7,8 @@ use Rattle.totals.specs.Wait.{exceeds_for}
 use Rattle.totals.proofs.laws.Wait.{bare_exceeds}
 use Rattle.row.proofs.waited_record.Goals as goal
 
-pub record_waited-next-requires : goal.record_waited-next-requires
-record_waited-next-requires c =
+pub record_waited-requires : goal.record_waited-requires
+record_waited-requires c =
     let a = c.args in
-    ap (exceeds_for a.r) c.own_duration-duration.ensures ∙ bare_exceeds a.r a.ticks
-    ∙ (accepted (record_refusals a.r a.ticks) refl (sym c.wait_code-code.ensures ∙ c.if-code-eq0.true)).1.0
+    ap (exceeds_for a.r) c.own_duration.ensures ∙ bare_exceeds a.r a.ticks
+    ∙ (accepted (record_refusals a.r a.ticks) refl (sym c.in_ok-wait_check.ensures)).1.0

@@ -1,18 +1,17 @@
 -- One line more: its reply is written, and the state goes on.
-use Rattle.std.specs.Prelude.{ℕ, ◌+◌, ◌-◌, ◌<◌, ◌≡◌, refl, List, take, drop}
+use Rattle.std.specs.Prelude.{Option, Some, None, ℕ, ◌+◌, ◌-◌, ◌<◌, ◌≡◌, refl, List, take, drop}
 use Rattle.std.proofs.Math.Path.{sym, ap}
 use Rattle.std.proofs.Common.{◌∙◌}
 use Rattle.std.proofs.Math.ListN.{length}
 use Rattle.bus.specs.Devices.{bus_ok}
 use Rattle.bus.specs.Events.{request_reply}
 use Rattle.bus.specs.declared.Bus.{Bus}
+use Rattle.bus.specs.declared.Event.{Event}
 use Rattle.bus.specs.declared.Reply.{Reply}
-use Rattle.bus.specs.declared.Request.{Request}
-use Rattle.bus.specs.declared.Request.TheVariants.{Known, Unknown}
 use Rattle.bus.proofs.laws.WellFormed.{step_places}
 use Rattle.replay.specs.Replay.{replayed}
 use Rattle.replay.proofs.laws.Alike.{replay_places}
-use Rattle.replay.specs.declared.Clock.{Clock}
+use Rattle.replay.specs.Time.{Clock}
 use Rattle.replay.specs.declared.Entry.{Entry}
 use Rattle.replay.specs.declared.Replayed.{Replayed}
 use Rattle.text.specs.Lines.{end_of}
@@ -31,9 +30,9 @@ reply_places : (b : Bus) (form : Form) (l : List ℕ) → length (reply_to b for
 unfolding reply_to
 reply_places b Plain l = go (parsed l)
   where
-    go : (q : Request) → length (request_reply b q).bus.devices ≡ length b.devices
-    go (Known event) = step_places b event
-    go Unknown = refl
+    go : (q : Option Event) → length (request_reply b q).bus.devices ≡ length b.devices
+    go (Some event) = step_places b event
+    go None = refl
 reply_places b (Stamped clock) l = replay_places b clock (parsed_entry l)
 
 module _ {first : State} {input old new : List ℕ} {read wrote lines : ℕ} {bus : Bus} {form : Form} (end n : ℕ)
@@ -56,13 +55,13 @@ module _ {first : State} {input old new : List ℕ} {read wrote lines : ℕ} {bu
   )
 
   -- of a plain line, with the reply to its request
-  pub turn_plain : (new' : List ℕ) (at : ℕ) (reply : Reply) (request : Request) → form ≡ Plain → request ≡ parsed (take (end - read) (drop read input)) → reply ≡ request_reply bus request
+  pub turn_plain : (new' : List ℕ) (at : ℕ) (reply : Reply) (request : Option Event) → form ≡ Plain → request ≡ parsed (take (end - read) (drop read input)) → reply ≡ request_reply bus request
       → Written new wrote (answer_line n reply.code reply.value) new' at → Turned new' at reply.bus form
   unfolding reply_to form_after
   turn_plain new' at reply request p q r w = turn new' at reply form (rw p (r ∙ ap (request_reply bus) q)) (rw p refl) w
 
   -- of a stamped one, with its entry replayed
-  pub turn_stamped : (new' : List ℕ) (at : ℕ) (r : Replayed) (clock : Clock) (x : Entry) → form ≡ Stamped clock → x ≡ parsed_entry (take (end - read) (drop read input)) → r ≡ replayed bus clock x
+  pub turn_stamped : (new' : List ℕ) (at : ℕ) (r : Replayed) (clock : Clock) (x : Option Entry) → form ≡ Stamped clock → x ≡ parsed_entry (take (end - read) (drop read input)) → r ≡ replayed bus clock x
       → Written new wrote (answer_line n r.reply.code r.reply.value) new' at → Turned new' at r.reply.bus (Stamped r.clock)
   unfolding reply_to form_after
   turn_stamped new' at r clock x p q e w =

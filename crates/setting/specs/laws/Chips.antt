@@ -1,15 +1,14 @@
 -- The chip of a number.
-use Rattle.std.specs.Prelude.{ℕ, ◌≡◌, refl, false, eqb}
+use Rattle.std.specs.Prelude.{Option, Some, None, ℕ, ◌≡◌, refl, false, eqb}
 use Rattle.std.proofs.Common.{sym, true≢false, eqb-true}
 use Rattle.basics.specs.laws.Logic.{holds, fails, tested}
 use Rattle.chip.specs.Kinds.{number_of, chip_numbered, is_unknown}
-use Rattle.chip.specs.declared.Lookup.{Lookup}
-use Rattle.chip.specs.declared.Lookup.TheVariants.{Known, Unknown}
+use Rattle.chip.specs.declared.Chip.{Chip}
 use Rattle.setting.specs.Reader.{known_chip}
 
-pub known_is : (found : Lookup) → is_unknown found ≡ false → found ≡ Known (known_chip found)
-known_is (Known chip) u = refl
-known_is Unknown u = absurd (true≢false u)
+pub known_is : (found : Option Chip) → is_unknown found ≡ false → found ≡ Some (known_chip found)
+known_is (Some chip) u = refl
+known_is None u = absurd (true≢false u)
 
 pub known_number : (n : ℕ) → is_unknown (chip_numbered n) ≡ false → number_of (known_chip (chip_numbered n)) ≡ n
 known_number n u =

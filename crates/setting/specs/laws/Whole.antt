@@ -1,5 +1,5 @@
 -- A whole text: what is read is a setting's, a setting's is read back, and what each refusal says.
-use Rattle.std.specs.Prelude.{ℕ, ◌-◌, ◌%◌, ◌≤◌, ◌<◌, ◌≡◌, Bool, false, not, ◌&&◌, cond, length, take, replicate}
+use Rattle.std.specs.Prelude.{Option, None, Some, Result, Ok, Err, ℕ, ◌-◌, ◌%◌, ◌≤◌, ◌<◌, ◌≡◌, Bool, false, not, ◌&&◌, cond, length, take, replicate}
 use Rattle.std.proofs.Math.Path.{refl, ap}
 use Rattle.std.proofs.Common.{sym, ◌∙◌, length-append, length-drop, take-append-drop, take_all, length-take-le}
 use Rattle.std.proofs.Math.Bool.{true, and-false}
@@ -21,43 +21,79 @@ use Rattle.chip.specs.laws.Kinds.{number_few}
 use Rattle.chip.specs.laws.Registers.{writables_few}
 use Rattle.chip.specs.Promises.{found_by_number}
 use Rattle.chip.specs.declared.Chip.{Chip}
-use Rattle.chip.specs.declared.Lookup.{Lookup}
-use Rattle.chip.specs.declared.Lookup.TheVariants.{Known, Unknown}
-use Rattle.refusals.specs.Refusals.{refuse, least, code_of}
-use Rattle.refusals.specs.laws.Refusals.{accepted}
+use Rattle.refusals.specs.Refusals.{refuse, least, code_of, outcome}
+use Rattle.refusals.specs.laws.Outcome.{done_is}
+use Rattle.refusals.specs.Reasons.{code_in}
+use Rattle.refusals.specs.declared.Reason.{Reason}
+use Rattle.refusals.specs.declared.Reason.TheVariants as reason
 use Rattle.text.specs.Text.{text, Short}
-use Rattle.text.specs.Read.{Rest, rest, mismatch, number_in, is_end}
+use Rattle.text.specs.Read.{Rest, rest, number_in, is_end}
 use Rattle.text.specs.laws.Decimal.{few_digits}
 use Rattle.text.specs.laws.Read.{end_sound}
 use Rattle.setting.specs.laws.Chips.{known_is, known_number}
 use Rattle.setting.specs.laws.Reader.{line_sound, line_read, values_long, registers_sound, registers_bytes, ReadSo, registers_read}
 use Rattle.setting.specs.laws.Setting.{lines_length, all_zero}
 use Rattle.setting.specs.Setting.{line, register_lines, setting_text, setting_ok, IsSetting, UnknownKind, BarredAddress}
-use Rattle.setting.specs.Reader.{kind_of, address_of, chip_in, known_chip, is_read, line_of, unknown_in, barred_in, registers_of, all_registers, values_of, all_values, text_refusals, setting_of, reading_of}
+use Rattle.setting.specs.Reader.{kind_of, address_of, chip_in, known_chip, is_read, line_of, unknown_in, barred_in, registers_of, all_registers, values_of, all_values, text_refusals, setting_of, reason_of, reading_of}
 use Rattle.setting.specs.declared.Setting.{Setting}
 
--- ---- the code of a text
-
-abbrev coded : Bool → Bool → Bool → ℕ
-coded a b c = cond a 1 (cond b 2 (cond c 4 0))
-
-code_is : (a b c : Bool) → code_of (refuse 1 a ∷ refuse 2 b ∷ refuse 4 c ∷ []) ≡ coded a b c
-unfolding code_of least
-code_is true true true = refl
-code_is true true false = refl
-code_is true false true = refl
-code_is true false false = refl
-code_is false true true = refl
-code_is false true false = refl
-code_is false false true = refl
-code_is false false false = refl
+-- ---- what a text comes to
 
 abbrev whole : List ℕ → Bool
 whole t = is_end (all_registers (known_chip (chip_in t)) (address_of t))
 
-code_of_lem : (t : List ℕ) → (reading_of t).code ≡ coded (unknown_in t) (barred_in t) (not (whole t))
+abbrev judged : Bool → Bool → Bool → Setting → Result Setting Reason
+judged a b c s = cond a (Err reason.UnknownKind) (cond b (Err reason.WrongAddress) (cond c (Err reason.Malformed) (Ok s)))
+
+judged_is : (a b c : Bool) (s : Setting) → outcome (refuse 1 a ∷ refuse 2 b ∷ refuse 4 c ∷ []) (λ k. Err (reason_of k)) (Ok s) ≡ judged a b c s
+unfolding code_of least
+judged_is true true true s = refl
+judged_is true true false s = refl
+judged_is true false true s = refl
+judged_is true false false s = refl
+judged_is false true true s = refl
+judged_is false true false s = refl
+judged_is false false true s = refl
+judged_is false false false s = refl
+
+pub reading_is : (t : List ℕ) → reading_of t ≡ judged (unknown_in t) (barred_in t) (not (whole t)) (setting_of t)
 unfolding text_refusals
-code_of_lem t = code_is (unknown_in t) (barred_in t) (not (whole t))
+reading_is t = judged_is (unknown_in t) (barred_in t) (not (whole t)) (setting_of t)
+
+-- a reason has the least number that holds
+coded : (a b c : Bool) (s : Setting) → code_in (judged a b c s) ≡ code_of (refuse 1 a ∷ refuse 2 b ∷ refuse 4 c ∷ [])
+unfolding code_of least
+coded true true true s = refl
+coded true true false s = refl
+coded true false true s = refl
+coded true false false s = refl
+coded false true true s = refl
+coded false true false s = refl
+coded false false true s = refl
+coded false false false s = refl
+
+pub reading_code : (t : List ℕ) → code_in (reading_of t) ≡ code_of (text_refusals t)
+unfolding text_refusals
+reading_code t = ap code_in (reading_is t) ∙ coded (unknown_in t) (barred_in t) (not (whole t)) (setting_of t)
+
+few_coded : (a b c : Bool) → code_of (refuse 1 a ∷ refuse 2 b ∷ refuse 4 c ∷ []) ≤ 4
+unfolding code_of least
+few_coded true true true = omega arith
+few_coded true true false = omega arith
+few_coded true false true = omega arith
+few_coded true false false = omega arith
+few_coded false true true = omega arith
+few_coded false true false = omega arith
+few_coded false false true = omega arith
+few_coded false false false = omega arith
+
+pub code_few : (t : List ℕ) → code_of (text_refusals t) ≤ 4
+unfolding text_refusals
+code_few t = few_coded (unknown_in t) (barred_in t) (not (whole t))
+
+-- where none holds, it is read
+pub reading_done : (t : List ℕ) → code_of (text_refusals t) ≡ 0 → reading_of t ≡ Ok (setting_of t)
+reading_done t z = done_is (text_refusals t) (λ k. Err (reason_of k)) (Ok (setting_of t)) z
 
 -- ---- what is read is what is written
 
@@ -69,20 +105,20 @@ module _ (t : List ℕ) where
   address = number_in (address_of t)
 
   -- the kind's line, where it is read
-  kind_line : (l : List ℕ) (n : ℕ) → kind_of t ≡ rest l n → (t ≡ line "chip=" n l) × Short n
+  kind_line : (l : List ℕ) (n : ℕ) → kind_of t ≡ Some (rest l n) → (t ≡ line "chip=" n l) × Short n
   kind_line l n e =
-      let h = line_sound (text "chip=") (rest t 0) e in
-      let q : rest t 0 ≡ rest (line "chip=" n l) 0 = h.0 in
+      let h = line_sound (text "chip=") (Some (rest t 0)) e in
+      let q : Some (rest t 0) ≡ Some (rest (line "chip=" n l) 0) = h.0 in
       (cc, h.1)
 
   -- and that of the address behind it
-  address_line : (l : List ℕ) (n : ℕ) → address_of t ≡ rest l n → (t ≡ line "chip=" (number_in (kind_of t)) (line "addr=" n l)) × Short n
+  address_line : (l : List ℕ) (n : ℕ) → address_of t ≡ Some (rest l n) → (t ≡ line "chip=" (number_in (kind_of t)) (line "addr=" n l)) × Short n
   address_line l n e =
       let h = line_sound (text "addr=") (kind_of t) e in
       ((kind_line (line "addr=" n l) (number_in (kind_of t)) h.0).0, h.1)
 
   -- where the lines of the registers end the text, those before them are read
-  lines_read : whole t ≡ true → address_of t ≡ rest (register_lines (first_writable chip) (values_of (first_writable chip) (writables chip) (address_of t))) address
+  lines_read : whole t ≡ true → address_of t ≡ Some (rest (register_lines (first_writable chip) (values_of (first_writable chip) (writables chip) (address_of t))) address)
   lines_read end =
       rw (append-nil (register_lines (first_writable chip) (values_of (first_writable chip) (writables chip) (address_of t))))
       at (registers_sound (first_writable chip) (writables chip) (address_of t) (end_sound (all_registers chip (address_of t)) end))
@@ -95,7 +131,7 @@ module _ (t : List ℕ) where
     abbrev values : List ℕ
     values = values_of (first_writable chip) (writables chip) (address_of t)
 
-    ended : all_registers chip (address_of t) ≡ rest [] (number_in (all_registers chip (address_of t)))
+    ended : all_registers chip (address_of t) ≡ Some (rest [] (number_in (all_registers chip (address_of t))))
     ended = end_sound (all_registers chip (address_of t)) end
 
     small : address % 256 ≡ address
@@ -129,15 +165,20 @@ follows : (a b : Bool) {c : Bool} → a ≡ true → (a && b) ≡ c → b ≡ c
 follows true b e q = q
 follows false b e q = absurd (false≢true e)
 
-pub read_whole : (t : List ℕ) → (reading_of t).code ≡ 0 → (t ≡ setting_text (reading_of t).setting) × IsSetting (reading_of t).setting
-unfolding text_refusals
-read_whole t z =
-    let none = accepted (text_refusals t) refl z in
-    let end = not-false (whole t) none.1.1.0 in
+all_by : (a b c : Bool) {r s : Setting} → judged a b c r ≡ Ok s → (a ≡ false) × (b ≡ false) × (c ≡ false) × (r ≡ s)
+all_by true b c e = cc
+all_by false true c e = cc
+all_by false false true e = cc
+all_by false false false e = (refl, refl, refl, cc)
+
+pub read_whole : (t : List ℕ) (s : Setting) → reading_of t ≡ Ok s → (t ≡ setting_text s) × IsSetting s
+read_whole t s e =
+    let none = all_by (unknown_in t) (barred_in t) (not (whole t)) (sym (reading_is t) ∙ e) in
+    let end = not-false (whole t) none.2 in
     let read = read_so t end in
     let known = follows (is_read (kind_of t)) (is_unknown (chip_in t)) read.1 none.0 in
-    let free = follows (is_read (address_of t)) (is_barred (chip_in t) (number_in (address_of t))) read.0 none.1.0 in
-    (its_text t known free end, is_setting t known free end)
+    let free = follows (is_read (address_of t)) (is_barred (chip_in t) (number_in (address_of t))) read.0 none.1 in
+    (its_text t known free end ∙ ap setting_text none.3, rw none.3 at (is_setting t known free end))
 
 -- ---- what is written is read back
 
@@ -160,7 +201,7 @@ module _ (s : Setting) (is : IsSetting s) where
   no_more = and_right (address_allowed s.chip s.addr) (all (λ x. eqb x 0) (drop many s.values)) is.ok
 
   addr_few : s.addr < 256
-  addr_few = allowed_byte (Known s.chip) s.addr refl (rw allowed refl)
+  addr_few = allowed_byte (Some s.chip) s.addr refl (rw allowed refl)
 
   values_few : length (take many s.values) ≡ many
   values_few = length-take-le many s.values (omega (arith, is.long, (writables_few s.chip).0))
@@ -170,114 +211,111 @@ module _ (s : Setting) (is : IsSetting s) where
       and_left (all (λ x. ltb x 256) (take many s.values)) (all (λ x. ltb x 256) (drop many s.values))
       (sym (all_both (λ (x : ℕ). ltb x 256) (take many s.values) (drop many s.values)) ∙ ap (all (λ x. ltb x 256)) (take-append-drop many s.values) ∙ is.bytes)
 
-  kind_read : kind_of (setting_text s) ≡ rest (line "addr=" s.addr lines) (number_of s.chip)
+  kind_read : kind_of (setting_text s) ≡ Some (rest (line "addr=" s.addr lines) (number_of s.chip))
   unfolding setting_text
   kind_read = line_read (text "chip=") (number_of s.chip) (line "addr=" s.addr lines) 0 (omega (arith, number_few s.chip))
 
-  address_read : address_of (setting_text s) ≡ rest lines s.addr
+  address_read : address_of (setting_text s) ≡ Some (rest lines s.addr)
   address_read = ap (line_of (text "addr=")) kind_read ∙ line_read (text "addr=") s.addr lines (number_of s.chip) (omega (arith, addr_few))
 
-  chip_read : chip_in (setting_text s) ≡ Known s.chip
-  chip_read = ap (λ (r : Rest). chip_numbered (number_in r)) kind_read ∙ found_by_number s.chip
+  chip_read : chip_in (setting_text s) ≡ Some s.chip
+  chip_read = ap (λ (r : Option Rest). chip_numbered (number_in r)) kind_read ∙ found_by_number s.chip
 
   registers_so : ReadSo first (take many s.values) [] s.addr (omega (arith, values_few, (writables_few s.chip).0, (writables_few s.chip).1)) values_bytes many
   registers_so = registers_read first (take many s.values) [] s.addr _ values_bytes many (omega (arith, values_few))
 
-  from_lines : rest lines s.addr ≡ rest (lines ++ []) s.addr
+  from_lines : Some (rest lines s.addr) ≡ Some (rest (lines ++ []) s.addr)
   from_lines = rw (append-nil lines) refl
 
-  end_read : is_end (all_registers s.chip (rest lines s.addr)) ≡ true
+  end_read : is_end (all_registers s.chip (Some (rest lines s.addr))) ≡ true
   unfolding register_lines
   end_read =
       let none : drop many (take many s.values) ≡ [] = drop_of_length-le (take many s.values) {i = many} (omega (arith, values_few)) in
-      ap (λ (r : Rest). is_end (registers_of first many r)) from_lines ∙ ap is_end registers_so.left ∙ rw none refl
+      ap (λ (r : Option Rest). is_end (registers_of first many r)) from_lines ∙ ap is_end registers_so.left ∙ rw none refl
 
   values_back : take many s.values ++ replicate (28 - many) 0 ≡ s.values
   values_back =
       let e : length (drop many s.values) ≡ 28 - many = rw (length-drop, is.long) refl in
       ap (λ (l : List ℕ). take many s.values ++ l) (sym (rw e at (all_zero (drop many s.values) no_more))) ∙ take-append-drop many s.values
 
-  values_read : all_values s.chip (rest lines s.addr) ≡ s.values
+  values_read : all_values s.chip (Some (rest lines s.addr)) ≡ s.values
   values_read =
-      ap (λ (r : Rest). all_values s.chip r) from_lines
+      ap (λ (r : Option Rest). all_values s.chip r) from_lines
       ∙ rw (registers_so.got, take_all many (take many s.values) (omega (arith, values_few))) values_back
 
   unknown_none : unknown_in (setting_text s) ≡ false
   unknown_none =
-      ap (λ (f : Lookup). is_read (kind_of (setting_text s)) && is_unknown f) chip_read ∙ and-false (is_read (kind_of (setting_text s)))
+      ap (λ (f : Option Chip). is_read (kind_of (setting_text s)) && is_unknown f) chip_read ∙ and-false (is_read (kind_of (setting_text s)))
 
   barred_none : barred_in (setting_text s) ≡ false
   barred_none =
-      ap (λ (f : Lookup). is_read (address_of (setting_text s)) && is_barred f (number_in (address_of (setting_text s)))) chip_read
-      ∙ ap (λ (r : Rest). is_read r && is_barred (Known s.chip) (number_in r)) address_read
+      ap (λ (f : Option Chip). is_read (address_of (setting_text s)) && is_barred f (number_in (address_of (setting_text s)))) chip_read
+      ∙ ap (λ (r : Option Rest). is_read r && is_barred (Some s.chip) (number_in r)) address_read
       ∙ rw allowed refl
 
   whole_read : whole (setting_text s) ≡ true
   whole_read =
-      ap (λ (f : Lookup). is_end (all_registers (known_chip f) (address_of (setting_text s)))) chip_read
-      ∙ ap (λ (r : Rest). is_end (all_registers s.chip r)) address_read
+      ap (λ (f : Option Chip). is_end (all_registers (known_chip f) (address_of (setting_text s)))) chip_read
+      ∙ ap (λ (r : Option Rest). is_end (all_registers s.chip r)) address_read
       ∙ end_read
 
-  code_read : (reading_of (setting_text s)).code ≡ 0
-  code_read = code_of_lem (setting_text s) ∙ rw (unknown_none, barred_none, whole_read) refl
-
-  abbrev made : Lookup → Rest → Setting
+  abbrev made : Option Chip → Option Rest → Setting
   made f r = record { chip = known_chip f; addr = number_in r % 256; values = all_values (known_chip f) r }
 
   setting_back : setting_of (setting_text s) ≡ s
   unfolding setting_of
   setting_back =
       let small : s.addr % 256 ≡ s.addr = let h = addr_few in omega arith in
-      ap (λ (f : Lookup). made f (address_of (setting_text s))) chip_read
-      ∙ ap (made (Known s.chip)) address_read
+      ap (λ (f : Option Chip). made f (address_of (setting_text s))) chip_read
+      ∙ ap (made (Some s.chip)) address_read
       ∙ rw (small, values_read) refl
 
-pub read_back : (s : Setting) → IsSetting s → reading_of (setting_text s) ≡ record { code = 0; setting = s }
-read_back s is = rw (code_read s is, setting_back s is) refl
+pub read_back : (s : Setting) → IsSetting s → reading_of (setting_text s) ≡ Ok s
+read_back s is = reading_is (setting_text s) ∙ rw (unknown_none s is, barred_none s is, whole_read s is, setting_back s is) refl
 
 -- ---- what each refusal says
 
-one_by : (a b c : Bool) → coded a b c ≡ 1 → a ≡ true
-one_by true b c e = refl
-one_by false true c e = absurd (omega arith)
-one_by false false true e = absurd (omega arith)
-one_by false false false e = absurd (omega arith)
+one_by : (a b c : Bool) (r : Setting) → judged a b c r ≡ Err reason.UnknownKind → a ≡ true
+one_by true b c r e = refl
+one_by false true c r e = cc
+one_by false false true r e = cc
+one_by false false false r e = cc
 
-two_by : (a b c : Bool) → coded a b c ≡ 2 → b ≡ true
-two_by true b c e = absurd (omega arith)
-two_by false true c e = refl
-two_by false false true e = absurd (omega arith)
-two_by false false false e = absurd (omega arith)
+two_by : (a b c : Bool) (r : Setting) → judged a b c r ≡ Err reason.WrongAddress → b ≡ true
+two_by true b c r e = cc
+two_by false true c r e = refl
+two_by false false true r e = cc
+two_by false false false r e = cc
 
-unknown_true : (f : Lookup) → is_unknown f ≡ true → f ≡ Unknown
-unknown_true Unknown e = refl
-unknown_true (Known chip) e = absurd (false≢true e)
+unknown_true : (f : Option Chip) → is_unknown f ≡ true → f ≡ None
+unknown_true None e = refl
+unknown_true (Some c) e = absurd (false≢true e)
 
-barred_true : (f : Lookup) (address : ℕ) → is_barred f address ≡ true → (is_unknown f ≡ false) × (address_allowed (known_chip f) address ≡ false)
-barred_true Unknown address e = absurd (false≢true e)
-barred_true (Known chip) address e = (refl, not-true (address_allowed chip address) e)
+barred_true : (f : Option Chip) (address : ℕ) → is_barred f address ≡ true → (is_unknown f ≡ false) × (address_allowed (known_chip f) address ≡ false)
+barred_true None n e = absurd (false≢true e)
+barred_true (Some c) n e = (refl, not-true (address_allowed c n) e)
 
 module _ (t : List ℕ) where
-  says_unknown : (r : Rest) → kind_of t ≡ r → (is_read r && is_unknown (chip_numbered (number_in r))) ≡ true → UnknownKind t
-  says_unknown mismatch q e = absurd (false≢true e)
-  says_unknown (rest l n) q e =
+  says_unknown : (r : Option Rest) → kind_of t ≡ r → (is_read r && is_unknown (chip_numbered (number_in r))) ≡ true → UnknownKind t
+  says_unknown None q e = absurd (false≢true e)
+  says_unknown (Some (rest l n)) q e =
       let h = kind_line t l n q in
       record { number = n; behind = l; short = h.1; begins = h.0; unknown = unknown_true (chip_numbered n) e }
 
   unknown_said : UnknownKind t → unknown_in t ≡ true
   unknown_said u =
-      let read : kind_of t ≡ rest u.behind u.number = ap kind_of u.begins ∙ line_read (text "chip=") u.number u.behind 0 u.short in
-      ap (λ (r : Rest). is_read r && is_unknown (chip_numbered (number_in r))) read ∙ ap is_unknown u.unknown
+      let read : kind_of t ≡ Some (rest u.behind u.number) = ap kind_of u.begins ∙ line_read (text "chip=") u.number u.behind 0 u.short in
+      ap (λ (r : Option Rest). is_read r && is_unknown (chip_numbered (number_in r))) read ∙ ap is_unknown u.unknown
 
-  pub one_says : (reading_of t).code ≡ 1 → UnknownKind t
-  one_says c = says_unknown (kind_of t) refl (one_by (unknown_in t) (barred_in t) (not (whole t)) (sym (code_of_lem t) ∙ c))
+  pub one_says : reading_of t ≡ Err reason.UnknownKind → UnknownKind t
+  one_says c = says_unknown (kind_of t) refl (one_by (unknown_in t) (barred_in t) (not (whole t)) (setting_of t) (sym (reading_is t) ∙ c))
 
-  pub unknown_is_one : UnknownKind t → (reading_of t).code ≡ 1
-  unknown_is_one u = code_of_lem t ∙ rw (unknown_said u) refl
+  pub unknown_is_one : UnknownKind t → reading_of t ≡ Err reason.UnknownKind
+  unknown_is_one u = reading_is t ∙ rw (unknown_said u) refl
 
-  says_barred : (r : Rest) → address_of t ≡ r → (is_read r && is_barred (chip_in t) (number_in r)) ≡ true → BarredAddress t
-  says_barred mismatch q e = absurd (false≢true e)
-  says_barred (rest l n) q e =
+  says_barred : (r : Option Rest) → address_of t ≡ r → (is_read r && is_barred (chip_in t) (number_in r)) ≡ true → BarredAddress t
+  says_barred None q e = absurd (false≢true e)
+  says_barred (Some (rest l n)) q e =
       let h = address_line t l n q in
       let b = barred_true (chip_in t) n e in
       record {
@@ -290,35 +328,34 @@ module _ (t : List ℕ) where
       }
 
   module _ (b : BarredAddress t) where
-    kind_there : kind_of t ≡ rest (line "addr=" b.address b.behind) (number_of b.chip)
+    kind_there : kind_of t ≡ Some (rest (line "addr=" b.address b.behind) (number_of b.chip))
     kind_there = ap kind_of b.begins ∙ line_read (text "chip=") (number_of b.chip) (line "addr=" b.address b.behind) 0 (omega (arith, number_few b.chip))
 
-    address_there : address_of t ≡ rest b.behind b.address
+    address_there : address_of t ≡ Some (rest b.behind b.address)
     address_there = ap (line_of (text "addr=")) kind_there ∙ line_read (text "addr=") b.address b.behind (number_of b.chip) b.short
 
-    chip_there : chip_in t ≡ Known b.chip
-    chip_there = ap (λ (r : Rest). chip_numbered (number_in r)) kind_there ∙ found_by_number b.chip
+    chip_there : chip_in t ≡ Some b.chip
+    chip_there = ap (λ (r : Option Rest). chip_numbered (number_in r)) kind_there ∙ found_by_number b.chip
 
     known_said : unknown_in t ≡ false
-    known_said = ap (λ (f : Lookup). is_read (kind_of t) && is_unknown f) chip_there ∙ and-false (is_read (kind_of t))
+    known_said = ap (λ (f : Option Chip). is_read (kind_of t) && is_unknown f) chip_there ∙ and-false (is_read (kind_of t))
 
     barred_said : barred_in t ≡ true
     barred_said =
-        ap (λ (f : Lookup). is_read (address_of t) && is_barred f (number_in (address_of t))) chip_there
-        ∙ ap (λ (r : Rest). is_read r && is_barred (Known b.chip) (number_in r)) address_there
+        ap (λ (f : Option Chip). is_read (address_of t) && is_barred f (number_in (address_of t))) chip_there
+        ∙ ap (λ (r : Option Rest). is_read r && is_barred (Some b.chip) (number_in r)) address_there
         ∙ ap not b.barred
 
-  pub two_says : (reading_of t).code ≡ 2 → BarredAddress t
-  two_says c = says_barred (address_of t) refl (two_by (unknown_in t) (barred_in t) (not (whole t)) (sym (code_of_lem t) ∙ c))
+  pub two_says : reading_of t ≡ Err reason.WrongAddress → BarredAddress t
+  two_says c = says_barred (address_of t) refl (two_by (unknown_in t) (barred_in t) (not (whole t)) (setting_of t) (sym (reading_is t) ∙ c))
 
-  pub barred_is_two : BarredAddress t → (reading_of t).code ≡ 2
-  barred_is_two b = code_of_lem t ∙ rw (known_said b, barred_said b) refl
+  pub barred_is_two : BarredAddress t → reading_of t ≡ Err reason.WrongAddress
+  barred_is_two b = reading_is t ∙ rw (known_said b, barred_said b) refl
 
-  pub no_other : (reading_of t).code ≡ 4 → (UnknownKind t → ⊥) × (BarredAddress t → ⊥) × ((s : Setting) → IsSetting s → t ≡ setting_text s → ⊥)
-  no_other c =
-      (λ u. omega (arith, c, unknown_is_one u), λ b. omega (arith, c, barred_is_two b), λ s is e. omega (arith, c, ap (λ (l : List ℕ). (reading_of l).code) e, code_read s is))
+  pub no_other : reading_of t ≡ Err reason.Malformed → (UnknownKind t → ⊥) × (BarredAddress t → ⊥) × ((s : Setting) → IsSetting s → t ≡ setting_text s → ⊥)
+  no_other c = (λ u. let e = unknown_is_one u in cc, λ b. let e = barred_is_two b in cc, λ s is q. let e = read_back s is in cc)
 
-  pub any_other : (UnknownKind t → ⊥) → (BarredAddress t → ⊥) → ((s : Setting) → IsSetting s → t ≡ setting_text s → ⊥) → (reading_of t).code ≡ 4
+  pub any_other : (UnknownKind t → ⊥) → (BarredAddress t → ⊥) → ((s : Setting) → IsSetting s → t ≡ setting_text s → ⊥) → reading_of t ≡ Err reason.Malformed
   any_other u b n =
       elim (tested (unknown_in t)) [
         | holds e ↦ absurd (u (says_unknown (kind_of t) refl e))
@@ -327,8 +364,8 @@ module _ (t : List ℕ) where
               | holds f ↦ absurd (b (says_barred (address_of t) refl f))
               | fails f ↦
                   elim (tested (whole t)) [
-                    | holds g ↦ let h = read_whole t (code_of_lem t ∙ rw (e, f, g) refl) in absurd (n (reading_of t).setting h.1 h.0)
-                    | fails g ↦ code_of_lem t ∙ rw (e, f, g) refl
+                    | holds g ↦ let h = read_whole t (setting_of t) (reading_is t ∙ rw (e, f, g) refl) in absurd (n (setting_of t) h.1 h.0)
+                    | fails g ↦ reading_is t ∙ rw (e, f, g) refl
                   ]
             ]
       ]

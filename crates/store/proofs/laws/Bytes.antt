@@ -1,7 +1,8 @@
 -- Numbers in bytes, and bytes that are all 0.
-use Rattle.std.specs.Prelude.{ℕ, zero, suc, ◌+◌, ◌*◌, ◌/◌, ◌^◌, ◌≤◌, ◌<◌, ◌≡◌, refl, ◌⊎◌, Bool, false, ◌&&◌, List, eqb, length, take, drop, get_or}
-use Rattle.std.proofs.Common.{ap, ◌∙◌, inl, inr, add-one, pow-suc, arith, eq-eqb, ne_eqb, drop-cons, take-suc, take_all}
-use Rattle.std.proofs.Math.Bool.{and-false, and-true}
+use Rattle.std.specs.Prelude.{ℕ, zero, suc, ◌+◌, ◌*◌, ◌/◌, ◌^◌, ◌≤◌, ◌<◌, ◌≡◌, refl, Bool, ◌&&◌, List, [], ◌∷◌, ◌++◌, eqb, length, take, drop, get_or}
+use Rattle.std.proofs.Common.{sym, ap, pow-suc, arith, drop-cons, take_all}
+use Rattle.std.specs.Int.{w64, from_le_bytes, to_le_bytes}
+use Rattle.std.proofs.Math.Nat.{div-div-eq-div-mul}
 use Rattle.basics.specs.First.{all}
 use Rattle.basics.specs.laws.First.{all_behind}
 use Rattle.store.specs.Layout.{number, digits}
@@ -29,15 +30,17 @@ unfolding digits
 digits_long zero x = refl
 digits_long (suc n) x = ap suc (digits_long n (x / 256))
 
+-- the same as std's
+pub number_bytes : (l : List ℕ) → length l ≡ 8 → from_le_bytes w64 l ≡ number l
+number_bytes l h =
+    let all : take 8 l ≡ l = take_all 8 l (omega arith) in
+    omega (arith, rw all at (number_eight l (omega arith)))
+
+pub digits_bytes : (x : ℕ) → to_le_bytes w64 x ≡ digits 8 x
+unfolding digits
+digits_bytes x = simp div-div-eq-div-mul
+
 -- ---- zeros, byte by byte
 
-zeros_more : (l : List ℕ) (i : ℕ) (b c : Bool) → i < length l → b ≡ all (λ x. eqb x 0) (take i l) → c ≡ (b && eqb (get_or l i 0) 0) → c ≡ all (λ x. eqb x 0) (take (i + 1) l)
-zeros_more l i b c h e q =
-    q ∙ rw (add-one i, take-suc l i 0 h, all_behind (λ (x : ℕ). eqb x 0) (take i l) (get_or l i 0), e) refl
-
-pub zeros_next : (l : List ℕ) (i : ℕ) (b c : Bool) → i < length l → b ≡ all (λ x. eqb x 0) (take i l) → ((get_or l i 0 ≡ 0 → ⊥) × (c ≡ false)) ⊎ ((get_or l i 0 ≡ 0) × (c ≡ b)) → c ≡ all (λ x. eqb x 0) (take (i + 1) l)
-zeros_next l i b c h e (inl q) = zeros_more l i b c h e (q.1 ∙ rw (ne_eqb (get_or l i 0) 0 q.0, and-false b) refl)
-zeros_next l i b c h e (inr q) = zeros_more l i b c h e (q.1 ∙ rw (eq-eqb (get_or l i 0) 0 q.0, and-true b) refl)
-
-pub zeros_done : (l : List ℕ) (i : ℕ) (b : Bool) → length l ≤ i → b ≡ all (λ x. eqb x 0) (take i l) → b ≡ all (λ x. eqb x 0) l
-zeros_done l i b h e = e ∙ ap (all (λ x. eqb x 0)) (take_all i l h)
+pub zeros_more : (l : List ℕ) (x : ℕ) (b c : Bool) → b ≡ all (λ y. eqb y 0) l → c ≡ (b && eqb x 0) → c ≡ all (λ y. eqb y 0) (l ++ x ∷ [])
+zeros_more l x b c e q = rw (q, e) (sym (all_behind (λ y. eqb y 0) l x))

@@ -1,18 +1,17 @@
 -- How a call's reply comes about: done or refused, over any storage.
-use Rattle.std.specs.Prelude.{ℕ, ◌%◌, ◌^◌, ◌≤◌, ◌<◌, ◌≡◌, true, false, not, List, [], ◌∷◌, ◌++◌, leb, eqb, length, drop}
+use Rattle.std.specs.Prelude.{ℕ, ◌%◌, ◌^◌, ◌≤◌, ◌<◌, ◌≡◌, true, false, not, List, [], ◌∷◌, ◌++◌, leb, length, drop, None, Some}
 use Rattle.std.proofs.Math.Path.{refl, ap}
 use Rattle.std.proofs.Common.{sym, ◌∙◌, arith}
 use borrow.Author.Tests.{eq-eqb, ne_eqb, lt-ltb, le-ltb}
-use Rattle.basics.specs.laws.Logic.{tested, holds, fails}
 use Rattle.refusals.specs.Refusals.{refuse, least, code_of}
 use Rattle.refusals.specs.laws.Refusals.{first_code}
 use Rattle.refusals.specs.laws.Outcome.{done_is, refused_is}
 use Rattle.setting.specs.Reader.{setting_of}
 use Rattle.setting.specs.Setting.{setting_text}
 use Rattle.setting.specs.declared.Setting.{Setting}
-use Rattle.store.specs.Saved.{saved, nothing, just, found}
+use Rattle.store.specs.Saved.{saved, found}
 use Rattle.store.specs.Layout.{store_size, fresh_store}
-use Rattle.store.specs.Calls.{Reply, replied, Storage, refused_with, done_with, next, save_refusals, save_reply, again, return_refusals, return_reply, read_refusals, read_reply, keep_refusals, keep_reply, fresh_refusals, fresh_reply}
+use Rattle.store.specs.Calls.{Storage, refused_with, done_with, next, save_refusals, save_reply, again, return_refusals, return_reply, read_refusals, read_reply, keep_refusals, keep_reply, fresh_reply}
 use Rattle.store.specs.Kept.{all_held, is_kept, freed_by}
 
 -- ---- a fresh store
@@ -24,13 +23,6 @@ fresh_refused buffer d = rw (ne_eqb (length buffer) store_size d) refl
 pub fresh_done : (buffer : List ℕ) → length buffer ≡ store_size → fresh_reply buffer ≡ done_with 0 fresh_store
 unfolding fresh_reply code_of least
 fresh_done buffer e = rw (eq-eqb (length buffer) store_size e) refl
-
--- its value is 0, done or refused
-pub fresh_value : (buffer lent : List ℕ) (code value : ℕ) → replied code value lent ≡ fresh_reply buffer → replied code 0 lent ≡ fresh_reply buffer
-unfolding fresh_reply
-fresh_value buffer lent code value e =
-    let zero : (fresh_reply buffer).value ≡ 0 = elim (tested (eqb (code_of (fresh_refusals buffer)) 0)) [ holds t ↦ rw t refl | fails t ↦ rw t refl ] in
-    ap (λ (v : ℕ). replied code v lent) (sym (ap (λ (r : Reply (List ℕ)). r.value) e ∙ zero)) ∙ e
 
 -- ---- done or refused
 
@@ -77,7 +69,7 @@ module _ {S : Type 0} (st : Storage S) (s : S) (table : ℕ) where
   unfolding return_reply
   return_refused version n = refused_is (return_refusals st s table version) (refused_with s) _ n
 
-  pub return_missing : (version : ℕ) → st.sound s ≡ true → next st s table ≤ 2 ^ 48 → found table version (st.holds s) ≡ nothing → return_reply st s table version ≡ refused_with s 11
+  pub return_missing : (version : ℕ) → st.sound s ≡ true → next st s table ≤ 2 ^ 48 → found table version (st.holds s) ≡ None → return_reply st s table version ≡ refused_with s 11
   unfolding return_refusals code_of least
   return_missing version e few f =
       let code : code_of (return_refusals st s table version) ≡ 11 = rw (e, f, le-ltb (2 ^ 48) (next st s table) few) (first_code 11 (refuse 12 (leb 256 (length (st.holds s))) ∷ []) (λ z. omega arith) refl) in
@@ -91,11 +83,11 @@ module _ {S : Type 0} (st : Storage S) (s : S) (table : ℕ) where
         let first : code_of (read_refusals st s table version buffer) ≡ 4 = rw e (first_code 4 (refuse 8 _ ∷ refuse 11 _ ∷ []) (λ z. omega arith) refl) in
         refused_is (read_refusals st s table version buffer) (refused_with buffer) _ (λ z. omega (arith, first, z)) ∙ ap (refused_with buffer) first
 
-    pub read_missing : st.sound s ≡ true → found table version (st.holds s) ≡ nothing → read_reply st s table version buffer ≡ refused_with buffer 11
+    pub read_missing : st.sound s ≡ true → found table version (st.holds s) ≡ None → read_reply st s table version buffer ≡ refused_with buffer 11
     unfolding read_reply read_refusals code_of least
     read_missing e f = rw (e, f, le-ltb (length buffer) 0 (omega arith)) refl
 
-    module _ (setting : Setting) (e : st.sound s ≡ true) (f : found table version (st.holds s) ≡ just setting) where
+    module _ (setting : Setting) (e : st.sound s ≡ true) (f : found table version (st.holds s) ≡ Some setting) where
       pub read_short : length buffer < length (setting_text setting) → read_reply st s table version buffer ≡ refused_with buffer 8
       unfolding read_reply read_refusals code_of least
       read_short h = rw (e, f, lt-ltb (length buffer) (length (setting_text setting)) h) refl

@@ -1,5 +1,5 @@
 -- A call on a store and on the list of what it holds: the same answer, and it holds the list afterwards.
-use Rattle.std.specs.Prelude.{ℕ, ◌+◌, ◌^◌, ◌≤◌, ◌<◌, ◌≡◌, Bool, true, false, cond, leb, eqb, length}
+use Rattle.std.specs.Prelude.{ℕ, ◌+◌, ◌^◌, ◌≤◌, ◌<◌, ◌≡◌, Bool, true, false, cond, leb, eqb, length, None, Option, Some, is_none}
 use Rattle.std.proofs.Math.Path.{refl, ap}
 use Rattle.std.proofs.Common.{sym, ◌∙◌, true≢false, arith, eqb-true, leb-false, ltb-false}
 use mathlib.Core.List.{List, [], ◌∷◌, ◌++◌}
@@ -9,9 +9,9 @@ use Rattle.refusals.specs.Refusals.{Refusal, code_of, outcome}
 use Rattle.refusals.specs.laws.Refusals.{NoneHolds, none_both, none_code, accepted}
 use Rattle.setting.specs.Reader.{text_refusals, setting_of}
 use Rattle.setting.specs.Setting.{setting_ok}
-use Rattle.setting.specs.Promises.{read_setting}
+use Rattle.setting.specs.Promises.{none_refused}
 use Rattle.setting.specs.declared.Setting.{Setting}
-use Rattle.store.specs.Saved.{Saved, saved, Found, nothing, just, is_nothing, found, only}
+use Rattle.store.specs.Saved.{Saved, saved, found, only}
 use Rattle.store.specs.Kept.{is_kept}
 use Rattle.store.specs.Layout.{saved_of, free_place, with_saved, with_only, version_in, place}
 use Rattle.store.specs.Calls.{Reply, bytes, refused_with, next, put_refusals, save_refusals, save_reply, again, return_refusals, return_reply, read_refusals, read_reply, keep_refusals, keep_reply}
@@ -93,7 +93,7 @@ module _ (store : List ℕ) (l : List Saved) (h : Holds store l) (table : ℕ) w
     unfolding save_refusals text_refusals
     save_holds z =
         let none = none_both (text_refusals text) (put_refusals bytes store table (leb 64 table)) (accepted (save_refusals bytes store table text) refl z) in
-        let is = (read_setting text (none_code (text_refusals text) none.0)).1 in
+        let is = (none_refused text (none_code (text_refusals text) none.0)).2 in
         put_holds store l h table (setting_of text)
         (put_saved store table (leb 64 table) none.1 (setting_of text) (leb-false 64 table none.1.1.1.0) is.ok is.long)
         (room_left store table (leb 64 table) none.1)
@@ -110,11 +110,11 @@ module _ (store : List ℕ) (l : List Saved) (h : Holds store l) (table : ℕ) w
 
     return_same : return_refusals bytes store table version ≡ return_refusals listed l table version
     unfolding return_refusals
-    return_same = put_same (is_nothing (found table version (saved_of store))) ∙ ap (λ (f : Found). put_refusals listed l table (is_nothing f)) same_found
+    return_same = put_same (is_none (found table version (saved_of store))) ∙ ap (λ (f : Option Setting). put_refusals listed l table (is_none f)) same_found
 
-    again_holds : (f : Found) → found table version (saved_of store) ≡ f → NoneHolds (put_refusals bytes store table (is_nothing f)) → Holds (again bytes store table f) (again listed l table f)
-    again_holds nothing q none = absurd (true≢false none.1.1.0)
-    again_holds (just setting) q none =
+    again_holds : (f : Option Setting) → found table version (saved_of store) ≡ f → NoneHolds (put_refusals bytes store table (is_none f)) → Holds (again bytes store table f) (again listed l table f)
+    again_holds None q none = absurd (true≢false none.1.1.0)
+    again_holds (Some setting) q none =
         let is = found_held store h.shape table version setting q in
         put_holds store l h table setting
         (put_saved store table false none setting is.table_few is.setting_ok_lem is.setting_long)

@@ -1,12 +1,13 @@
 -- Lists with only the versions that a test keeps: what is found in them, the newest of a table, how many there are.
-use Rattle.std.specs.Prelude.{ℕ, max, ◌+◌, ◌≤◌, ◌≡◌, refl, Bool, true, ◌&&◌, ◌||◌, cond, List, [], ◌∷◌, ◌++◌, eqb, ltb, length}
+use Rattle.std.specs.Prelude.{ℕ, max, ◌+◌, ◌≤◌, ◌≡◌, refl, Bool, true, ◌&&◌, ◌||◌, cond, List, [], ◌∷◌, ◌++◌, eqb, ltb, length, None, Option, is_some}
 use Rattle.std.proofs.Common.{sym, ◌∙◌, arith, eqb-true, eq-eqb, ltb-true, ltb-false}
 use Rattle.std.proofs.Math.Path.{ap}
 use Rattle.std.proofs.Math.Bool.{not}
 use Rattle.std.proofs.lemmas.Bool.{eqb-false}
 use Rattle.basics.specs.laws.Below.{below_alike}
 use Rattle.basics.specs.laws.Logic.{tested, holds, fails, and_left, and_right}
-use Rattle.store.specs.Saved.{Saved, newest, Found, nothing, is_nothing, found, only}
+use Rattle.setting.specs.declared.Setting.{Setting}
+use Rattle.store.specs.Saved.{Saved, newest, found, only}
 use Rattle.store.specs.Kept.{table_at, version_at, pairs, is_listed, all_held, is_kept, freed_by}
 use Rattle.store.specs.History.{many, Alike}
 
@@ -43,7 +44,7 @@ only_twice p q (e ∷ l) =
 
 -- ---- what is found
 
-pub found_only : (keeps : ℕ → ℕ → Bool) (table version : ℕ) (l : List Saved) → found table version (only keeps l) ≡ cond (keeps table version) (found table version l) nothing
+pub found_only : (keeps : ℕ → ℕ → Bool) (table version : ℕ) (l : List Saved) → found table version (only keeps l) ≡ cond (keeps table version) (found table version l) None
 unfolding found only
 found_only keeps table version [] = elim (tested (keeps table version)) [ holds t ↦ rw t refl | fails t ↦ rw t refl ]
 found_only keeps table version (e ∷ l) =
@@ -163,7 +164,7 @@ module _ (list : List ℕ) {l m : List Saved} (a : Alike l m) where
   pub held_alike : all_held list l ≡ all_held list m
   unfolding all_held
   held_alike =
-      below_alike _ _ (pairs list) (λ i h. ap (λ (f : Found). not (is_nothing f)) (a.same_found (table_at list i) (version_at list i)))
+      below_alike _ _ (pairs list) (λ i h. ap (λ (f : Option Setting). is_some f) (a.same_found (table_at list i) (version_at list i)))
 
   pub freed_alike : freed_by list l ≡ freed_by list m
   freed_alike =

@@ -1,10 +1,9 @@
 -- The places of a store: what the bytes of a version say, what is found where, and that one place written is one version more.
 use Prim.Native.Nat.{ℕ, zero, suc, max, ◌+◌, ◌-◌, ◌*◌, ◌^◌, ◌≤◌, ◌<◌}
-use Rattle.std.specs.Prelude.{◌≡◌, Bool, true, false, not, ◌&&◌, cond, leb, ltb, get_or, replicate}
+use Rattle.std.specs.Prelude.{◌≡◌, Bool, true, false, not, ◌&&◌, cond, leb, ltb, get_or, None, Option, Some}
 use Rattle.std.proofs.Math.Path.{refl, ap}
 use Rattle.std.proofs.Common.{sym, ◌∙◌, add-one, le_of_suc-le-suc, eq-or-lt_of_le}
 use Rattle.std.proofs.Math.Logic.{⊎_elim}
-use Rattle.std.proofs.Math.Bool.{and-true, and-false}
 use mathlib.Core.List.{List, [], ◌∷◌, ◌++◌, append_assoc, append-nil}
 use Rattle.std.proofs.Math.Nat.{suc_inj}
 use native.Mathlib.Omega.{arith}
@@ -17,19 +16,19 @@ use Rattle.basics.specs.First.{all}
 use Rattle.basics.specs.Parts.{with_part}
 use Rattle.basics.specs.laws.Below.{below_at, below_all, first_holds}
 use Rattle.basics.specs.laws.Logic.{tested, holds, fails, and_left, and_right}
-use Rattle.basics.specs.laws.Parts.{part_long, part_back, slice_is, slice_long, slice_back, part_same, part_other, with_part_long}
+use Rattle.basics.specs.laws.Parts.{part_long, slice_is, slice_back, part_same, part_other, with_part_long}
+use Rattle.chip.specs.Kinds.{kind_of, chip_of}
 use Rattle.chip.specs.declared.Chip.{Chip}
 use Rattle.chip.specs.declared.Chip.TheVariants.{Pca9635, Pca9634, Pca9531, Pca9551}
 use Rattle.chip.specs.Addresses.{address_allowed}
 use Rattle.chip.specs.Registers.{writables}
 use Rattle.setting.specs.Setting.{setting_ok}
 use Rattle.setting.specs.declared.Setting.{Setting}
-use Rattle.text.specs.Write.{Written}
-use Rattle.text.specs.laws.Write.{then, written_all}
-use Rattle.store.specs.Saved.{Saved, newest, Found, nothing, just, is_nothing, found}
-use Rattle.store.specs.Layout.{store_size, digits, kind_of, chip_of, version_in, table_in, setting_in, place_of, held_ok, place_ok, place, store_ok, saved_at, saved_below, saved_of}
+use Rattle.store.specs.Saved.{Saved, newest, found}
+use Rattle.store.specs.Layout.{store_size, digits, version_in, table_in, setting_in, place_of, place_ok, place, store_ok, saved_at, saved_below, saved_of}
 use Rattle.store.proofs.laws.Bytes.{number_digits, digits_long}
-use Rattle.store.proofs.laws.Saved.{or_else, found_both, newest_both, never, just_inj, Inserted}
+use Rattle.std.specs.Option.{option_or}
+use Rattle.store.proofs.laws.Saved.{found_both, newest_both, never, just_inj, Inserted}
 use Rattle.store.specs.laws.Layout.{IsSaved, held_place, is_at}
 
 -- ---- the bytes of a version
@@ -76,73 +75,24 @@ module _ (store : List ℕ) (i : ℕ) (long : length store ≡ store_size) (ther
   pub place_lent : take (40 * i + 40 - 40 * i) (drop (40 * i) store) ≡ place i store
   place_lent = slice_is 256 40 i store long there
 
-  pub lent_long : length (take (40 * i + 40 - 40 * i) (drop (40 * i) store)) ≡ 40
-  lent_long = slice_long 256 40 i store long there
-
   pub place_back : (p : List ℕ) → length p ≡ 40 → take (40 * i) store ++ (p ++ drop (40 * i + 40 - 40 * i) (drop (40 * i) store)) ≡ with_part 256 40 i p store
   place_back = slice_back 256 40 i store long there
 
 -- ---- how a place is judged
 
-module _ (p : List ℕ) (held : ℕ) {b : Bool} (e : held ≡ version_in p) where
-  pub free_ok : held ≡ 0 → b ≡ all (λ x. eqb x 0) p → b ≡ place_ok p
-  unfolding place_ok
-  free_ok z q = rw (eq-eqb (version_in p) 0 (sym e ∙ z)) q
-
-  pub held_ok_lem : (held ≡ 0 → ⊥) → b ≡ held_ok p → b ≡ place_ok p
-  unfolding place_ok
-  held_ok_lem n q = rw (ne_eqb (version_in p) 0 (λ z. n (e ∙ z))) q
-
-module _ (p : List ℕ) (held : ℕ) (e : held ≡ version_in p) where
-  pub held_far : 2 ^ 48 < held → false ≡ held_ok p
-  held_far h = rw (← e, lt-leb held (2 ^ 48) h) refl
-
-  pub held_is : (b : Bool) → held ≤ 2 ^ 48 → table_in p < 64 → get_or p 9 0 < 4 → get_or p 11 0 ≡ 0 → b ≡ setting_ok (setting_in p) → b ≡ held_ok p
-  held_is b h t k z q =
-      rw (← e, le-leb held (2 ^ 48) h, lt-ltb (table_in p) 64 t, lt-ltb (get_or p 9 0) 4 k, eq-eqb (get_or p 11 0) 0 z) q
-
 module _ (p : List ℕ) (chip : Chip) (address : ℕ) (c : chip ≡ chip_of (get_or p 9 0)) (a : address ≡ get_or p 10 0) where
-  pub setting_barred : address_allowed chip address ≡ false → false ≡ setting_ok (setting_in p)
-  unfolding setting_ok
-  setting_barred f = rw (← c, ← a, f) refl
-
-  pub setting_is : (n : ℕ) (b : Bool) → length p ≡ 40 → n ≡ writables chip → address_allowed chip address ≡ true → b ≡ all (λ x. eqb x 0) (take (length p - (12 + n)) (drop (12 + n) p)) → b ≡ setting_ok (setting_in p)
+  pub setting_is : (n : ℕ) (b : Bool) → length p ≡ 40 → n ≡ writables chip → address_allowed chip address ≡ true → b ≡ all (λ x. eqb x 0) (take (40 - (12 + n)) (drop (12 + n) p)) → b ≡ setting_ok (setting_in p)
   unfolding setting_ok
   setting_is n b h m t q =
-      let all_of : take (length p - (12 + n)) (drop (12 + n) p) ≡ drop (12 + n) p = take_all (length p - (12 + n)) (drop (12 + n) p) (rw length-drop (omega arith)) in
+      let all_of : take (40 - (12 + n)) (drop (12 + n) p) ≡ drop (12 + n) p = take_all (40 - (12 + n)) (drop (12 + n) p) (rw length-drop (omega arith)) in
       q ∙ rw (← c, ← a, t, ← m, all_of, drop-drop n 12 p) refl
-
--- ---- what is copied from a place, and what is written to it
-
-pub values_in : (p new : List ℕ) (r : ℕ) → length p ≡ 40 → Written (replicate 28 0) 0 (take (length p - 12) (drop 12 p)) new r → new ≡ drop 12 p
-values_in p new r h w =
-    let all : take (length p - 12) (drop 12 p) ≡ drop 12 p = take_all (length p - 12) (drop 12 p) (rw length-drop (omega arith)) in
-    written_all (rw all at w) (rw (length-drop, h) refl)
-
-pub put_is : (store : List ℕ) (i : ℕ) (e : Saved) {a b new : List ℕ} {p q r : ℕ} → length store ≡ store_size → i < 256 → length e.setting.values ≡ 28
-    → Written store (40 * i) (digits 8 e.version) a p → Written a p (e.table ∷ kind_of e.setting.chip ∷ e.setting.addr ∷ 0 ∷ []) b q → Written b q e.setting.values new r
-    → new ≡ with_part 256 40 i (place_of e) store
-put_is store i e long there values x y z =
-    let w = then x (then y z) in
-    let wide : length (place_of e) ≡ 40 = simp (length-append, digits_long 8 e.version, values) (omega arith) in
-    w.text ∙ rw (wide, ← drop-drop 40 (40 * i) store) (part_back 256 40 i store long there (place_of e) wide)
 
 -- ---- what is found where
 
-module _ (table version held : ℕ) (p : List ℕ) (e : held ≡ version_in p) where
-  pub at_free : held ≡ 0 → false ≡ is_at table version p
-  at_free z = let q : version_in p ≡ 0 = sym e ∙ z in rw q refl
+abbrev pub setting_or : List ℕ → ℕ → ℕ → Option Setting
+setting_or store n i = cond (ltb i n) (Some (setting_in (place i store))) None
 
-  pub at_other : (held ≡ 0 → ⊥) → (held ≡ version → ⊥) → false ≡ is_at table version p
-  at_other n d = rw (← e, ne_eqb held 0 n, ne_eqb held version d, and-false (eqb (table_in p) table)) refl
-
-  pub at_own : (own : ℕ) → own ≡ table_in p → (held ≡ 0 → ⊥) → held ≡ version → eqb own table ≡ is_at table version p
-  at_own own f n d = rw (← e, ← f, ne_eqb held 0 n, eq-eqb held version d, and-true (eqb own table)) refl
-
-abbrev pub setting_or : List ℕ → ℕ → ℕ → Found
-setting_or store n i = cond (ltb i n) (just (setting_in (place i store))) nothing
-
-found_at : (table version : ℕ) (p : List ℕ) → found table version (saved_at p) ≡ cond (is_at table version p) (just (setting_in p)) nothing
+pub found_at : (table version : ℕ) (p : List ℕ) → found table version (saved_at p) ≡ cond (is_at table version p) (Some (setting_in p)) None
 unfolding found
 found_at table version p = elim (tested (eqb (version_in p) 0)) [ holds t ↦ rw t refl | fails t ↦ rw t refl ]
 
@@ -155,7 +105,7 @@ module _ (table version : ℕ) (store : List ℕ) where
   found_place zero = refl
   found_place (suc n) =
       found_both table version (saved_below n store) (saved_at (place n store))
-      ∙ ap (λ (f : Found). or_else f (found table version (saved_at (place n store)))) (found_place n)
+      ∙ ap (λ (f : Option Setting). option_or f (found table version (saved_at (place n store)))) (found_place n)
       ∙ elim (tested (ltb (first_below n at) n)) [
         | holds t ↦ rw (t, lt-ltb (first_below n at) (suc n) (omega (arith, ltb-true (first_below n at) n t))) refl
         | fails t ↦
@@ -164,14 +114,6 @@ module _ (table version : ℕ) (store : List ℕ) where
               | fails u ↦ rw (u, le-ltb (suc n) (suc n) (omega arith)) refl
             ])
       ]
-
-  pub missing_at : leb 256 (held_place table version store) ≡ is_nothing (found table version (saved_of store))
-  missing_at =
-      rw (found_place 256)
-      (elim (tested (ltb (held_place table version store) 256)) [
-        | holds t ↦ rw (t, lt-leb 256 (held_place table version store) (ltb-true (held_place table version store) 256 t)) refl
-        | fails t ↦ rw (t, le-leb 256 (held_place table version store) (ltb-false (held_place table version store) 256 t)) refl
-      ])
 
 -- a place adds the version that it holds of the table
 newest_at : (table : ℕ) (p : List ℕ) → newest table (saved_at p) ≡ cond (eqb (table_in p) table) (version_in p) 0
@@ -302,6 +244,11 @@ right_size store b e q = rw (eq-eqb (length store) store_size e) q
 
 -- ---- what a store of the right shape holds
 
+zero_at : (l : List ℕ) (k : ℕ) → all (λ x. eqb x 0) l ≡ true → get_or l k 0 ≡ 0
+zero_at [] k e = refl
+zero_at (x ∷ l) zero e = eqb-true x 0 (and_left (eqb x 0) (all (λ y. eqb y 0) l) e)
+zero_at (x ∷ l) (suc k) e = zero_at l k (and_right (eqb x 0) (all (λ y. eqb y 0) l) e)
+
 module _ (store : List ℕ) (ok : store_ok store ≡ true) where
   pub ok_long : length store ≡ store_size
   unfolding store_ok
@@ -339,7 +286,16 @@ module _ (store : List ℕ) (ok : store_ok store ≡ true) where
       let p = place i store in
       (held_at (table_in p) (version_in p) i h (rw (ne_eqb (version_in p) 0 n, eq-eqb (table_in p) (table_in p) refl, eq-eqb (version_in p) (version_in p) refl) refl)).table_few
 
-  pub found_held : (table version : ℕ) (setting : Setting) → found table version (saved_of store) ≡ just setting → IsHeld table setting
+  -- and of any place: of a free one it is 0
+  pub table_few : (i : ℕ) → i < 256 → table_in (place i store) < 64
+  unfolding place_ok
+  table_few i h =
+      elim (tested (eqb (version_in (place i store)) 0)) [
+        | holds t ↦ omega (arith, zero_at (place i store) 8 (rw t at (ok_place i h)))
+        | fails t ↦ held_few i h (eqb-false (version_in (place i store)) 0 t)
+      ]
+
+  pub found_held : (table version : ℕ) (setting : Setting) → found table version (saved_of store) ≡ Some setting → IsHeld table setting
   found_held table version setting f =
       let i = held_place table version store in
       let g = sym (found_place table version store 256) ∙ f in

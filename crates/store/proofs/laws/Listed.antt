@@ -1,5 +1,5 @@
 -- The list of what calls put in and leave: what it keeps of an earlier one, what is found in both, and the numbers that calls give.
-use Rattle.std.specs.Prelude.{ℕ, suc, ◌+◌, ◌≤◌, ◌≡◌, Bool, true, false, not, ◌&&◌, ◌||◌, cond, eqb, ltb}
+use Rattle.std.specs.Prelude.{ℕ, suc, ◌+◌, ◌≤◌, ◌≡◌, Bool, true, false, not, ◌&&◌, ◌||◌, cond, eqb, ltb, None, Option, Some, is_none, is_some}
 use Rattle.std.proofs.Math.Path.{refl, sym, ap}
 use Rattle.std.proofs.Common.{◌∙◌, true≢false, arith, eq-eqb, ne_eqb, eqb-true, ltb-true, ltb-false}
 use mathlib.Core.List.{List, [], ◌∷◌, ◌++◌, append_assoc, append-nil}
@@ -10,7 +10,7 @@ use Rattle.refusals.specs.laws.Outcome.{outcome_is}
 use Rattle.refusals.specs.laws.Refusals.{NoneHolds}
 use Rattle.setting.specs.Reader.{text_refusals, setting_of}
 use Rattle.setting.specs.declared.Setting.{Setting}
-use Rattle.store.specs.Saved.{Saved, saved, newest, Found, nothing, just, is_nothing, is_version, found, is_held, only}
+use Rattle.store.specs.Saved.{Saved, saved, newest, is_version, found, is_held, only}
 use Rattle.store.specs.Kept.{is_kept}
 use Rattle.store.specs.Calls.{Reply, refused_with, done_with, next, put_refusals, save_refusals, save_reply, again, return_refusals, return_reply, keep_refusals, keep_reply}
 use Rattle.store.specs.History.{Call, Save, Return, Read, Keep, number_in, after, after_all, given_by, given, kept_by, kept_by_all, listed, many, Follows, InOrder}
@@ -34,9 +34,9 @@ turned_away : (l : List Saved) (own k : ℕ) → (k ≡ 0 → ⊥) → PutLeft l
 turned_away l own k n =
     stays refl (λ table. rw (ne_eqb k 0 n) (elim (tested (eqb own table)) [ holds t ↦ rw t refl | fails t ↦ rw t refl ])) (λ table version. refl)
 
-again_left : (l : List Saved) (own : ℕ) (f : Found) → NoneHolds (put_refusals listed l own (is_nothing f)) → PutLeft l own (done_with (next listed l own) (again listed l own f))
-again_left l own nothing none = absurd (true≢false none.1.1.0)
-again_left l own (just setting) none = gains own setting refl (λ table. refl) (λ table version. refl)
+again_left : (l : List Saved) (own : ℕ) (f : Option Setting) → NoneHolds (put_refusals listed l own (is_none f)) → PutLeft l own (done_with (next listed l own) (again listed l own f))
+again_left l own None none = absurd (true≢false none.1.1.0)
+again_left l own (Some setting) none = gains own setting refl (λ table. refl) (λ table version. refl)
 
 after_left : (l : List Saved) (c : Call) → Left l (after listed l c) (λ table. given_by listed table l c) (kept_by listed l c)
 unfolding save_reply save_refusals text_refusals return_reply return_refusals keep_reply keep_refusals
@@ -51,7 +51,7 @@ after_left l (Keep list) =
 
 -- ---- what is kept of an earlier list
 
-found_above : (own : ℕ) (setting : Setting) (l : List Saved) (table version : ℕ) → version ≤ newest table l → found table version (saved own (next listed l own) setting ∷ []) ≡ nothing
+found_above : (own : ℕ) (setting : Setting) (l : List Saved) (table version : ℕ) → version ≤ newest table l → found table version (saved own (next listed l own) setting ∷ []) ≡ None
 unfolding found
 found_above own setting l table version h =
     elim (tested (eqb own table && eqb (next listed l own) version)) [
@@ -79,7 +79,7 @@ module _ {l m : List Saved} {numbers : ℕ → List ℕ} {kept : ℕ → ℕ →
   no_less (gains own setting e g k) table = rw e (omega (arith, newest_both table l (saved own (next listed l own) setting ∷ [])))
   no_less (frees e g n) table = omega (arith, n table)
 
-none_either : (b : Bool) → cond b nothing nothing ≡ nothing
+none_either : (b : Bool) → cond {A = Option Setting} b None None ≡ None
 none_either true = refl
 none_either false = refl
 
@@ -108,11 +108,11 @@ module _ (table version : ℕ) (l : List Saved) (cs : List Call) (low : version 
   abbrev kept : Bool
   kept = kept_by_all listed l cs table version
 
-  abbrev later : Found
+  abbrev later : Option Setting
   later = found table version (after_all listed l cs)
 
   -- a version is what it was, or is gone
-  found_later : later ≡ cond kept (found table version l) nothing
+  found_later : later ≡ cond kept (found table version l) None
   found_later =
       let f = all_follow l cs in
       ap (found table version) f.follows
@@ -126,13 +126,13 @@ module _ (table version : ℕ) (l : List Saved) (cs : List Call) (low : version 
   pub still_held : is_held table version l ≡ true → is_held table version (after_all listed l cs) ≡ kept
   still_held h =
       elim (tested kept) [
-        | holds t ↦ ap (λ (f : Found). not (is_nothing f)) (still_found t) ∙ h ∙ sym t
+        | holds t ↦ ap (λ (f : Option Setting). is_some f) (still_found t) ∙ h ∙ sym t
         | fails t ↦
-            let none : later ≡ nothing = found_later ∙ rw t refl in
-            ap (λ (f : Found). not (is_nothing f)) none ∙ sym t
+            let none : later ≡ None = found_later ∙ rw t refl in
+            ap (λ (f : Option Setting). is_some f) none ∙ sym t
       ]
 
-  pub still_gone : found table version l ≡ nothing → later ≡ nothing
+  pub still_gone : found table version l ≡ None → later ≡ None
   still_gone e = found_later ∙ rw (e, none_either kept) refl
 
 -- a version that is held is not above the newest
@@ -144,7 +144,7 @@ held_low table version l h =
     ]
 
 -- the next version is found
-pub found_next : (table : ℕ) (l : List Saved) (setting : Setting) → found table (next listed l table) (l ++ saved table (next listed l table) setting ∷ []) ≡ just setting
+pub found_next : (table : ℕ) (l : List Saved) (setting : Setting) → found table (next listed l table) (l ++ saved table (next listed l table) setting ∷ []) ≡ Some setting
 unfolding found
 found_next table l setting =
     found_both table (next listed l table) l (saved table (next listed l table) setting ∷ [])

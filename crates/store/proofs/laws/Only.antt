@@ -5,11 +5,11 @@ use Rattle.std.proofs.Math.Path.{refl, sym}
 use Rattle.std.proofs.Common.{ap, ◌∙◌, add-one, arith, get_or-set_same, get_or-set_other}
 use Rattle.std.proofs.Math.Bool.{not}
 use Rattle.std.proofs.Math.ListN.{length-append}
-use borrow.Author.Tests.{eq-eqb, ne_eqb, eqb-true, eqb-false}
+use borrow.Author.Tests.{eqb-true, eqb-false}
 use Rattle.basics.specs.Parts.{with_part}
 use Rattle.basics.specs.laws.Logic.{tested, holds, fails}
 use Rattle.store.specs.Saved.{newest, only}
-use Rattle.store.specs.Kept.{is_listed, is_kept}
+use Rattle.store.specs.Kept.{is_kept}
 use Rattle.store.specs.Layout.{number, version_in, table_in, place_ok, place, store_ok, saved_at, saved_below, saved_of, is_freed, free_part, only_below}
 use Rattle.store.proofs.laws.Kept.{only_both}
 use Rattle.store.proofs.laws.Layout.{newest_other, held_few, at_place, elsewhere, before_same, with_ok}
@@ -135,20 +135,6 @@ module _ (greatest p : List ℕ) where
             let d = eqb-false table at t in
             get_or-set_other greatest at table v 0 d ∙ omega (arith, newest_other table p (λ q. d (sym (own ∙ q))))
       ]
-
-  pub raised_none : (limit : ℕ) → limit ≤ table_in p → (table : ℕ) → table < limit → get_or greatest table 0 ≡ max (get_or greatest table 0) (newest table (saved_at p))
-  raised_none limit h table k = omega (arith, newest_other table p (λ q. omega arith))
-
--- whether a place is freed, by such a row
-module _ (list greatest p : List ℕ) (version table : ℕ) (v : version ≡ version_in p) (t : table ≡ table_in p) where
-  pub freed_empty : version ≡ 0 → false ≡ is_freed (kept_of list greatest) p
-  freed_empty z = rw (← v, z) refl
-
-  pub freed_greatest : (version ≡ 0 → ⊥) → get_or greatest table 0 ≡ version → false ≡ is_freed (kept_of list greatest) p
-  freed_greatest n e = rw (← v, ← t, ne_eqb version 0 n, eq-eqb version (get_or greatest table 0) (sym e)) refl
-
-  pub freed_other : (b : Bool) → (version ≡ 0 → ⊥) → (get_or greatest table 0 ≡ version → ⊥) → b ≡ is_listed list table version → not b ≡ is_freed (kept_of list greatest) p
-  freed_other b n d e = rw (← v, ← t, ne_eqb version 0 n, ne_eqb version (get_or greatest table 0) (λ q. d (sym q)), e) refl
 
 -- in a store of the right shape that is whether it is kept
 freed_same : (list greatest store : List ℕ) → store_ok store ≡ true → GreatestOf store greatest → (i : ℕ) → i < 256 → is_freed (kept_of list greatest) (place i store) ≡ is_freed (is_kept list (saved_of store)) (place i store)

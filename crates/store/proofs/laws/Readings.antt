@@ -1,5 +1,5 @@
 -- What a version reads as, after any further calls that keep it.
-use Rattle.std.specs.Prelude.{ℕ, ◌≤◌, ◌≡◌, true, false, not}
+use Rattle.std.specs.Prelude.{ℕ, ◌≤◌, ◌≡◌, true, false, None, Option, Some, is_none, is_some}
 use Rattle.std.proofs.Math.Path.{refl, ap}
 use Rattle.std.proofs.Common.{sym, ◌∙◌, true≢false, arith}
 use mathlib.Core.List.{List, [], ◌∷◌, ◌++◌}
@@ -9,9 +9,9 @@ use Rattle.refusals.specs.laws.Refusals.{none_both, none_code, accepted}
 use Rattle.refusals.specs.laws.Outcome.{outcome_code}
 use Rattle.setting.specs.Reader.{text_refusals, setting_of}
 use Rattle.setting.specs.Setting.{setting_text}
-use Rattle.setting.specs.Promises.{read_setting}
+use Rattle.setting.specs.Promises.{none_refused}
 use Rattle.setting.specs.declared.Setting.{Setting}
-use Rattle.store.specs.Saved.{Saved, saved, newest, Found, nothing, just, is_nothing, found, is_held}
+use Rattle.store.specs.Saved.{Saved, saved, newest, found, is_held}
 use Rattle.store.specs.Kept.{is_kept}
 use Rattle.store.specs.Layout.{store_ok, saved_of}
 use Rattle.store.specs.Calls.{Reply, Storage, bytes, done_with, refused_with, next, put_refusals, save_refusals, save_reply, again, return_refusals, return_reply, read_refusals, read_reply, keep_reply}
@@ -37,7 +37,7 @@ read_by_found l m table v w buffer e = rw e refl
 
 -- what is held of a store is held of its list
 held_in : {store : List ℕ} {l : List Saved} → Holds store l → (table version : ℕ) → is_held table version (saved_of store) ≡ is_held table version l
-held_in h table version = ap (λ (f : Found). not (is_nothing f)) (h.versions.same_found table version)
+held_in h table version = ap (λ (f : Option Setting). is_some f) (h.versions.same_found table version)
 
 -- a store of the right shape holds what its places say
 pub own : (store : List ℕ) → store_ok store ≡ true → Holds store (saved_of store)
@@ -61,7 +61,7 @@ module _ (store : List ℕ) (l : List Saved) (h : Holds store l) (table : ℕ) w
       ∙ sym (all_kept store l h cs table version)
 
   -- a version that is gone
-  gone_same : (version : ℕ) (cs : List Call) → version ≤ newest table l → found table version l ≡ nothing → found table version (saved_of (after_all bytes store cs)) ≡ nothing
+  gone_same : (version : ℕ) (cs : List Call) → version ≤ newest table l → found table version l ≡ None → found table version (saved_of (after_all bytes store cs)) ≡ None
   gone_same version cs low f =
       (all_hold store l h cs).versions.same_found table version ∙ still_gone table version l cs low f
 
@@ -74,7 +74,7 @@ module _ (store : List ℕ) (l : List Saved) (h : Holds store l) (table : ℕ) w
     abbrev list : List Saved
     list = after_all listed first cs
 
-    found_made : found table (next listed l table) list ≡ just setting
+    found_made : found table (next listed l table) list ≡ Some setting
     found_made =
         let low = held_low table (next listed l table) first (rw (found_next table l setting) refl) in
         still_found table (next listed l table) first cs low (sym (all_kept made first g cs table (next listed l table)) ∙ kept)
@@ -87,7 +87,7 @@ module _ (store : List ℕ) (l : List Saved) (h : Holds store l) (table : ℕ) w
         → read_reply bytes (after_all bytes made cs) table (next listed l table) buffer ≡ done_with (length (setting_text setting)) (setting_text setting ++ drop (length (setting_text setting)) buffer)
     made_text k = made_read ∙ read_done listed list table (next listed l table) buffer setting refl found_made k
 
-    made_again : (version : ℕ) → found table version l ≡ just setting → read_reply bytes (after_all bytes made cs) table (next listed l table) buffer ≡ read_reply bytes store table version buffer
+    made_again : (version : ℕ) → found table version l ≡ Some setting → read_reply bytes (after_all bytes made cs) table (next listed l table) buffer ≡ read_reply bytes store table version buffer
     made_again version f =
         made_read
         ∙ read_by_found list l table (next listed l table) version buffer (found_made ∙ sym f)
@@ -103,7 +103,7 @@ module _ (store : List ℕ) (l : List Saved) (h : Holds store l) (table : ℕ) w
       let zl = save_accepted listed l table text (sym a.same_code ∙ z) in
       let done = save_done listed l table text zl in
       let none = none_both (text_refusals text) (put_refusals listed l table _) (accepted (save_refusals listed l table text) refl zl) in
-      let is : text ≡ setting_text (setting_of text) = (read_setting text (none_code (text_refusals text) none.0)).0 in
+      let is : text ≡ setting_text (setting_of text) = (none_refused text (none_code (text_refusals text) none.0)).1 in
       let value = a.same_value ∙ ap (λ (r : Reply (List Saved)). r.value) done in
       ap (λ (v : ℕ). read_reply bytes (after_all bytes (save_reply bytes store table text).state cs) table v buffer) value
       ∙ made_text (save_reply bytes store table text).state (setting_of text) (rw done at a.same_state) cs buffer (rw value at kept) (omega (arith, ap length is))
@@ -128,18 +128,18 @@ module _ (store : List ℕ) (l : List Saved) (h : Holds store l) (table : ℕ) w
       value : (return_reply bytes store table version).value ≡ next listed l table
       value = a.same_value ∙ ap (λ (r : Reply (List Saved)). r.value) done
 
-      there : is_nothing (found table version l) ≡ false
+      there : is_none (found table version l) ≡ false
       there = (accepted (return_refusals listed l table version) refl zl).1.1.0
 
-      go : (f : Found) → found table version l ≡ f → read_reply bytes (after_all bytes (return_reply bytes store table version).state cs) table (return_reply bytes store table version).value buffer ≡ read_reply bytes store table version buffer
-      go nothing q = absurd (true≢false (sym (ap is_nothing q) ∙ there))
-      go (just setting) q =
+      go : (f : Option Setting) → found table version l ≡ f → read_reply bytes (after_all bytes (return_reply bytes store table version).state cs) table (return_reply bytes store table version).value buffer ≡ read_reply bytes store table version buffer
+      go None q = absurd (true≢false (sym (ap is_none q) ∙ there))
+      go (Some setting) q =
           ap (λ (v : ℕ). read_reply bytes (after_all bytes (return_reply bytes store table version).state cs) table v buffer) value
           ∙ made_again (return_reply bytes store table version).state setting (rw (done, q) at a.same_state) cs buffer (rw value at kept) version q
 
 -- a version that making room has freed
 pub freed_same : (store : List ℕ) → store_ok store ≡ true → (table version : ℕ) (list : List ℕ) (cs : List Call) → (keep_reply bytes store list).code ≡ 0 → is_held table version (saved_of store) ≡ true → is_kept list (saved_of store) table version ≡ false
-    → found table version (saved_of (after_all bytes (keep_reply bytes store list).state cs)) ≡ nothing
+    → found table version (saved_of (after_all bytes (keep_reply bytes store list).state cs)) ≡ None
 freed_same store ok table version list cs z held freed =
     let left = (keep_agree store (saved_of store) (own store ok) list).same_state.shape in
     let low : version ≤ newest table (saved_of (keep_reply bytes store list).state) = rw (newest_stays store list table) (held_low table version (saved_of store) held) in

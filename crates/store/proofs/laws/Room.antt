@@ -1,11 +1,11 @@
 -- Making room: what it leaves in each place, what is found then, and the number of versions gone.
-use Rattle.std.specs.Prelude.{ℕ, ◌+◌, ◌<◌, ◌≡◌, refl, Bool, cond, List, eqb, length}
+use Rattle.std.specs.Prelude.{ℕ, ◌+◌, ◌<◌, ◌≡◌, refl, Bool, cond, List, eqb, length, None}
 use Rattle.std.proofs.Common.{sym, ◌∙◌, arith, eqb-true}
 use Rattle.std.proofs.lemmas.Bool.{eqb-false}
 use Rattle.basics.specs.laws.Logic.{tested, holds, fails}
 use Rattle.refusals.specs.Refusals.{code_of}
 use Rattle.refusals.specs.laws.Outcome.{outcome_code}
-use Rattle.store.specs.Saved.{newest, nothing, found, only}
+use Rattle.store.specs.Saved.{newest, found, only}
 use Rattle.store.specs.Kept.{is_kept, freed_by}
 use Rattle.store.specs.Layout.{place, saved_of, is_freed, free_part, with_only}
 use Rattle.store.specs.Calls.{bytes, refused_with, done_with, keep_refusals, keep_reply}
@@ -36,7 +36,7 @@ module _ (store list : List ℕ) where
     pub place_kept : (i : ℕ) → i < 256 → place i (keep_reply bytes store list).state ≡ cond (is_freed keeps (place i store)) free_part (place i store)
     place_kept i h = rw done (place_left keeps store 256 i h (omega arith))
 
-    pub found_kept : (table version : ℕ) → found table version (saved_of (keep_reply bytes store list).state) ≡ cond (keeps table version) (found table version (saved_of store)) nothing
+    pub found_kept : (table version : ℕ) → found table version (saved_of (keep_reply bytes store list).state) ≡ cond (keeps table version) (found table version (saved_of store)) None
     found_kept table version = rw (done, only_held) (found_only keeps table version (saved_of store))
 
     pub value_gone : (keep_reply bytes store list).value + length (saved_of (keep_reply bytes store list).state) ≡ length (saved_of store)

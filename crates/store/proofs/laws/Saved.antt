@@ -1,20 +1,16 @@
 -- Lists of versions, one behind the other, and one version more at any place.
-use Rattle.std.specs.Prelude.{ℕ, max, ◌+◌, ◌<◌, ◌≡◌, Bool, true, ◌&&◌, List, [], ◌∷◌, ◌++◌, length}
+use Rattle.std.specs.Prelude.{ℕ, max, ◌+◌, ◌<◌, ◌≡◌, Bool, true, ◌&&◌, List, [], ◌∷◌, ◌++◌, length, None, Option, Some}
+use Rattle.std.specs.Option.{option_or}
 use Rattle.std.proofs.Math.Path.{refl, ap}
 use Rattle.std.proofs.Common.{sym, ◌∙◌, arith}
 use Rattle.std.proofs.Math.Dec.{eqb}
 use borrow.Author.Tests.{eqb-true}
 use Rattle.basics.specs.laws.Logic.{tested, holds, fails, and_left, and_right}
 use Rattle.setting.specs.declared.Setting.{Setting}
-use Rattle.store.specs.Saved.{Saved, newest, Found, nothing, just, is_version, found}
+use Rattle.store.specs.Saved.{Saved, newest, is_version, found}
 use Rattle.store.specs.History.{many, Alike}
 
--- the first of two that is there
-abbrev pub or_else : Found → Found → Found
-or_else nothing f = f
-or_else (just s) f = just s
-
-pub found_both : (table version : ℕ) (l m : List Saved) → found table version (l ++ m) ≡ or_else (found table version l) (found table version m)
+pub found_both : (table version : ℕ) (l m : List Saved) → found table version (l ++ m) ≡ option_or (found table version l) (found table version m)
 unfolding found
 found_both table version [] m = refl
 found_both table version (e ∷ l) m =
@@ -39,7 +35,7 @@ many_all [] = refl
 many_all (e ∷ l) = omega (arith, many_all l)
 
 -- no version above the newest is there
-pub above_newest : (table version : ℕ) (l : List Saved) → newest table l < version → found table version l ≡ nothing
+pub above_newest : (table version : ℕ) (l : List Saved) → newest table l < version → found table version l ≡ None
 unfolding found newest
 above_newest table version [] h = refl
 above_newest table version (e ∷ l) h =
@@ -60,18 +56,18 @@ pub record Inserted (e : Saved) (l m : List Saved) : Type 0 where
   pub old : l ≡ before ++ behind
   pub new : m ≡ before ++ e ∷ behind
 
-pub or_nothing : (f : Found) → or_else f nothing ≡ f
-or_nothing nothing = refl
-or_nothing (just s) = refl
+pub or_nothing : (f : Option Setting) → option_or f None ≡ f
+or_nothing None = refl
+or_nothing (Some s) = refl
 
-pub never : {s : Setting} {A : Type 0} → nothing ≡ just s → A
+pub never : {s : Setting} {A : Type 0} → None ≡ Some s → A
 never e = absurd (let z : ◌≡◌ {A = ℕ} 0 1 = cc in omega arith)
 
-pub just_inj : {s t : Setting} → just s ≡ just t → s ≡ t
+pub just_inj : {s t : Setting} → Some s ≡ Some t → s ≡ t
 just_inj e = cc
 
 -- what is not found is not there at all
-pub none_found : (table version : ℕ) (l : List Saved) → found table version l ≡ nothing → many (is_version table version) l ≡ 0
+pub none_found : (table version : ℕ) (l : List Saved) → found table version l ≡ None → many (is_version table version) l ≡ 0
 unfolding many found
 none_found table version [] f = refl
 none_found table version (e ∷ l) f =
@@ -83,35 +79,35 @@ none_found table version (e ∷ l) f =
 -- a version above the newest of its table may stand anywhere
 module _ (e : Saved) (l m : List Saved) (i : Inserted e l m) (higher : newest e.table l < e.version) where
   module _ (table version : ℕ) where
-    abbrev here : List Saved → Found
+    abbrev here : List Saved → Option Setting
     here k = found table version k
 
     -- where it stands behind, e is another version
-    behind_other : (s : Setting) → here i.before ≡ nothing → here i.behind ≡ just s → here (e ∷ []) ≡ nothing
+    behind_other : (s : Setting) → here i.before ≡ None → here i.behind ≡ Some s → here (e ∷ []) ≡ None
     unfolding found
     behind_other s p q =
         elim (tested (eqb e.table table && eqb e.version version)) [
           | holds t ↦
               let own = eqb-true e.table table (and_left (eqb e.table table) (eqb e.version version) t) in
               let same = eqb-true e.version version (and_right (eqb e.table table) (eqb e.version version) t) in
-              let none : here l ≡ nothing = above_newest table version l (rw (own, same) at higher) in
-              let there : here l ≡ just s = ap here i.old ∙ found_both table version i.before i.behind ∙ rw (p, q) refl in
+              let none : here l ≡ None = above_newest table version l (rw (own, same) at higher) in
+              let there : here l ≡ Some s = ap here i.old ∙ found_both table version i.before i.behind ∙ rw (p, q) refl in
               never (sym none ∙ there)
           | fails t ↦ rw t refl
         ]
 
-    in_order : (f g : Found) → here i.before ≡ f → here i.behind ≡ g → or_else f (or_else (here (e ∷ [])) g) ≡ or_else (or_else f g) (here (e ∷ []))
-    in_order (just s) g p q = refl
-    in_order nothing nothing p q = or_nothing (here (e ∷ []))
-    in_order nothing (just s) p q = rw (behind_other s p q) refl
+    in_order : (f g : Option Setting) → here i.before ≡ f → here i.behind ≡ g → option_or f (option_or (here (e ∷ [])) g) ≡ option_or (option_or f g) (here (e ∷ []))
+    in_order (Some s) g p q = refl
+    in_order None None p q = or_nothing (here (e ∷ []))
+    in_order None (Some s) p q = rw (behind_other s p q) refl
 
     found_inserted : here m ≡ here (l ++ e ∷ [])
     found_inserted =
         ap here i.new
         ∙ found_both table version i.before (e ∷ i.behind)
-        ∙ ap (or_else (here i.before)) (found_both table version (e ∷ []) i.behind)
+        ∙ ap (option_or (here i.before)) (found_both table version (e ∷ []) i.behind)
         ∙ in_order (here i.before) (here i.behind) refl refl
-        ∙ ap (λ (f : Found). or_else f (here (e ∷ []))) (sym (ap here i.old ∙ found_both table version i.before i.behind))
+        ∙ ap (λ (f : Option Setting). option_or f (here (e ∷ []))) (sym (ap here i.old ∙ found_both table version i.before i.behind))
         ∙ sym (found_both table version l (e ∷ []))
 
   newest_inserted : (table : ℕ) → newest table m ≡ newest table (l ++ e ∷ [])
@@ -151,7 +147,7 @@ alike_trans a b =
 pub alike_more : (e : Saved) {l m : List Saved} → Alike l m → Alike (l ++ e ∷ []) (m ++ e ∷ [])
 alike_more e {l} {m} a =
     record {
-      same_found = λ t v. found_both t v l (e ∷ []) ∙ ap (λ (f : Found). or_else f (found t v (e ∷ []))) (a.same_found t v) ∙ sym (found_both t v m (e ∷ []));
+      same_found = λ t v. found_both t v l (e ∷ []) ∙ ap (λ (f : Option Setting). option_or f (found t v (e ∷ []))) (a.same_found t v) ∙ sym (found_both t v m (e ∷ []));
       same_newest = λ t. omega (arith, newest_both t l (e ∷ []), newest_both t m (e ∷ []), a.same_newest t);
       same_many = λ p. omega (arith, many_both p l (e ∷ []), many_both p m (e ∷ []), a.same_many p);
     }

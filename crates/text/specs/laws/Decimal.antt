@@ -1,10 +1,11 @@
 -- A number that is written is read back, and what is read as a number is one that is written.
-use Rattle.std.specs.Prelude.{ℕ, zero, suc, ◌+◌, ◌*◌, ◌-◌, ◌/◌, ◌%◌, ◌^◌, ◌≤◌, ◌<◌, ◌≡◌, refl, Bool, true, false, ◌&&◌, List, [], ◌∷◌, ◌++◌, length, ltb, leb}
+use Rattle.std.specs.Prelude.{ℕ, zero, suc, ◌+◌, ◌*◌, ◌-◌, ◌/◌, ◌%◌, ◌^◌, ◌≤◌, ◌<◌, ◌≡◌, refl, Option, None, Some, Bool, true, false, ◌&&◌, List, [], ◌∷◌, ◌++◌, length, ltb, leb}
 use Rattle.std.proofs.Common.{sym, ap, ◌∙◌, append_assoc, ⊎_elim, pow-suc, lt_of_lt_of_le, zero-add, arith, lt-ltb, le-ltb, le-leb, ltb-true, leb-true, length-append}
 use Rattle.std.proofs.Math.Nat.{pow-le-pow_right}
+use Rattle.std.proofs.lemmas.Option.{same_Some}
 use Rattle.basics.specs.laws.Logic.{holds, fails, tested, lt_or_ge, and_left, and_right}
 use Rattle.text.specs.Text.{spelled, decimal, Short}
-use Rattle.text.specs.Read.{rest, mismatch, is_digit, takes_digit, digits_of, first_of}
+use Rattle.text.specs.Read.{Rest, rest, is_digit, takes_digit, digits_of, first_of}
 
 -- ---- how many digits a number has
 
@@ -93,17 +94,17 @@ digits_sound (d ∷ l) n s e =
       | fails t ↦ here (d ∷ l) n s (rw t at e)
     ]
 
-pub never : {r : List ℕ} {m : ℕ} {A : Type 0} → mismatch ≡ rest r m → A
+pub never : {r : List ℕ} {m : ℕ} {A : Type 0} → ◌≡◌ {A = Option Rest} None (Some (rest r m)) → A
 never e = absurd (let z : ◌≡◌ {A = ℕ} 0 1 = cc in omega arith)
 
-pub number_sound : (l : List ℕ) {r : List ℕ} {m : ℕ} → first_of l ≡ rest r m → Reads l m r
+pub number_sound : (l : List ℕ) {r : List ℕ} {m : ℕ} → first_of l ≡ Some (rest r m) → Reads l m r
 unfolding first_of
 number_sound [] e = never e
 number_sound (d ∷ l) e =
     elim (tested (is_digit d)) [
       | holds t ↦
           let k = digit_true d t in
-          rw (decimal_one d k.0 k.1) at (digits_sound l (d - 48) (omega arith) (rw t at e))
+          rw (decimal_one d k.0 k.1) at (digits_sound l (d - 48) (omega arith) (same_Some _ _ (rw t at e)))
       | fails t ↦ never (rw t at e)
     ]
 
@@ -130,7 +131,7 @@ digits_stop (d ∷ l) n h = rw (no_more n d h)
 is_digit_lem : (e : ℕ) → e < 10 → is_digit (48 + e) ≡ true
 is_digit_lem e h = let g : 48 + e < 58 = omega arith in let k : 48 ≤ 48 + e = omega arith in rw (le-leb 48 (48 + e) k, lt-ltb (48 + e) 58 g)
 
-one_read : (n : ℕ) (r : List ℕ) → n < 10 → first_of ((48 + n) ∷ r) ≡ digits_of n r
+one_read : (n : ℕ) (r : List ℕ) → n < 10 → first_of ((48 + n) ∷ r) ≡ Some (digits_of n r)
 unfolding first_of
 one_read n r h = let q : 48 + n - 48 ≡ n = omega arith in rw (is_digit_lem n h, q)
 
@@ -143,14 +144,14 @@ more_read n r h s =
     let w : n % 10 < 10 = omega arith in
     rw (lt-ltb 0 (n / 10) u, lt-ltb (n / 10) 100000000000000 v, is_digit_lem (n % 10) w, q)
 
-spelled_read : (k n : ℕ) (r : List ℕ) → n < 10 ^ suc k → Short n → first_of (spelled (suc k) n ++ r) ≡ digits_of n r
+spelled_read : (k n : ℕ) (r : List ℕ) → n < 10 ^ suc k → Short n → first_of (spelled (suc k) n ++ r) ≡ Some (digits_of n r)
 spelled_read zero n r h s = let g : n < 10 = omega arith in rw (spelled_one 0 n g) (one_read n r g)
 spelled_read (suc k) n r h s =
     ⊎_elim (λ (g : n < 10). rw (spelled_one (suc k) n g) (one_read n r g))
     (λ (g : 10 ≤ n).
     rw (spelled_more (suc k) n g, append_assoc)
-    (spelled_read k (n / 10) ((48 + n % 10) ∷ r) (omega (arith, rw pow-suc at h)) (omega arith) ∙ more_read n r g s))
+    (spelled_read k (n / 10) ((48 + n % 10) ∷ r) (omega (arith, rw pow-suc at h)) (omega arith) ∙ ap Some (more_read n r g s)))
     (lt_or_ge n 10)
 
-pub number_read : (n : ℕ) (r : List ℕ) → Short n → Stops r → first_of (decimal n ++ r) ≡ rest r n
-number_read n r s h = spelled_read 19 n r (omega arith) s ∙ digits_stop r n h
+pub number_read : (n : ℕ) (r : List ℕ) → Short n → Stops r → first_of (decimal n ++ r) ≡ Some (rest r n)
+number_read n r s h = spelled_read 19 n r (omega arith) s ∙ ap Some (digits_stop r n h)

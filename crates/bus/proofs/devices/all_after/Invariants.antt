@@ -1,11 +1,8 @@
--- The loop: the first i devices have taken the signal.
-use Rattle.std.specs.Prelude.{◌≤◌, ◌-◌, ◌≡◌}
+-- The loop: the devices before this one have taken the signal.
+use Rattle.std.specs.Prelude.{◌≡◌, take}
 use Rattle.basics.specs.First.{map_first}
 use Rattle.protocol.specs.Signals.{after_signal}
 use Rattle.bus.proofs.devices.all_after.Given as goal
 
-abbrev pub invariant-loop-i : goal.invariant-loop-i
-invariant-loop-i l = (l.i ≤ l.n) × (l.next ≡ map_first l.i (after_signal l.phase l.signal) l.initial.next)
-
-abbrev pub decreases-loop-i : goal.decreases-loop-i
-decreases-loop-i l = l.n - l.i
+abbrev pub invariant-loop-d : goal.invariant-loop-d
+invariant-loop-d l = l.d-items ≡ map_first l.d-index (after_signal l.phase l.signal) (take l.n l.fn.devices)

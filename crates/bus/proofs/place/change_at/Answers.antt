@@ -28,7 +28,7 @@ unfolding change_refusals after_change
 returns-in-Oe c =
     let lit_long : length c.args.bus.lit ≡ 128 = search (rules, as_long) in
     let unlit_long : length c.args.bus.unlit ≡ 128 = search (rules, as_long) in
-    let code = rw (c.is_driver.ensures, c.device_at-d.ensures) at c.level_code-code.ensures in
+    let code = rw (c.is_driver-is_driver.ensures, c.device_at-d.ensures) at c.level_check.ensures in
     rw c.in-Oe.is
     (c.placed.ensures ∙ placed_is _ _ _ _ _ c.requires code lit_long unlit_long (λ z. rw (c.with_oe.ensures, c.device_at-d.ensures) refl))
 
@@ -37,9 +37,9 @@ unfolding change_refusals after_change
 returns-in-Ext c =
     let lit_long : length c.args.bus.lit ≡ 128 = search (rules, as_long) in
     let unlit_long : length c.args.bus.unlit ≡ 128 = search (rules, as_long) in
-    let code = rw (c.is_driver-in-Ext.ensures, c.device_at-d.ensures) at c.level_code-code-in-Ext.ensures in
+    let code = rw (c.is_driver-is_driver.ensures, c.device_at-d.ensures) at c.level_check-in-Ext.ensures in
     rw c.in-Ext.is
-    (c.placed-in-Ext.ensures ∙ placed_is _ _ _ _ _ c.requires code lit_long unlit_long (λ z. rw (c.with_levels.ensures, c.device_at-d.ensures, levels_byte c.in-Ext.level c.is_driver-in-Ext.result (sym c.level_code-code-in-Ext.ensures ∙ z)) refl))
+    (c.placed-in-Ext.ensures ∙ placed_is _ _ _ _ _ c.requires code lit_long unlit_long (λ z. rw (c.with_levels.ensures, c.device_at-d.ensures, levels_byte c.in-Ext.level c.is_driver-is_driver.result (sym c.level_check-in-Ext.ensures ∙ z)) refl))
 
 pub returns-in-Reset : goal.returns-in-Reset
 unfolding change_refusals after_change code_of

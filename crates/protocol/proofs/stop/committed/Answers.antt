@@ -1,4 +1,4 @@
--- `protocol::stop::committed` meets its contract. The loop's invariant: the registers from PWM0 up to i are copied. The measure is the number of registers left.
+-- `protocol::stop::committed` meets its contract. The loop's invariant: the registers from PWM0 up to i are copied.
 use Rattle.std.proofs.Common.{ap, arith}
 use Rattle.std.specs.Prelude.{◌≡◌}
 use Rattle.basics.specs.laws.Tabulate.{tabulated}
@@ -13,5 +13,5 @@ unfolding committed
 returns c =
     let a = c.args in
     let l = c.loop-i in
-    let e : l.i ≡ subadr1 (outputs_of a.chip) = omega (arith, ap (λ (m : RegisterMap). m.subadr1) c.register_map-map.ensures) in
+    let e : l.i ≡ subadr1 (outputs_of a.chip) = omega (arith, ap (λ (m : RegisterMap). m.subadr1) c.register_map-i-end.ensures) in
     tabulated 28 (committed_at (outputs_of a.chip) a.written a.effective) l.next l.invariant.3 (rw e at l.invariant.4)

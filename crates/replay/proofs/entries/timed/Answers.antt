@@ -1,18 +1,13 @@
 -- The event after the time, by the code of both.
-use Rattle.replay.proofs.laws.Alike.{time_shape}
-use Rattle.replay.proofs.laws.Timed.{timed_both, timed_neither}
+use Rattle.replay.proofs.laws.Late.{timed_done, timed_refused}
 use Rattle.replay.proofs.entries.timed.Goals as goal
-
-pub step_judged-r-requires : goal.step_judged-r-requires
-step_judged-r-requires c =
-    rw (c.pass-p.ensures.bus_value, time_shape c.args.ticks c.args.bus) c.requires
 
 pub returns-then-code-eq0 : goal.returns-then-code-eq0
 returns-then-code-eq0 c =
     let a = c.args in
-    timed_both a.ticks a.bus a.event _ _ _ (rw c.pass-p.ensures.bus_value at c.step_judged-r.ensures) c.pass-p.ensures.overrun_value c.or_refused-code.ensures c.if-code-eq0.true
+    timed_done a.ticks a.judged a.event _ (c.pass-after.ensures.room, c.pass-after.ensures.after) _ c.is_none.ensures _ (rw c.unwrap_or.ensures at c.step-reply.ensures) _ (rw c.from.ensures at c.or_refused-code.ensures) c.if-code-eq0.true
 
 pub returns-else-code-eq0 : goal.returns-else-code-eq0
 returns-else-code-eq0 c =
     let a = c.args in
-    timed_neither a.ticks a.bus a.event _ _ _ (rw c.pass-p.ensures.bus_value at c.step_judged-r.ensures) c.pass-p.ensures.overrun_value c.or_refused-code.ensures _ c.if-code-eq0.false c.refused.ensures
+    timed_refused a.ticks a.judged a.event _ (c.pass-after.ensures.room, c.pass-after.ensures.after) _ c.is_none.ensures _ (rw c.unwrap_or.ensures at c.step-reply.ensures) _ (rw c.from.ensures at c.or_refused-code.ensures) c.if-code-eq0.false

@@ -6,4 +6,4 @@ use Rattle.script.proofs.answer.write_answer.Goals as goal
 pub returns : goal.returns
 unfolding answer_line
 returns c =
-    then c.write_text-a.ensures (then c.write_decimal-b.ensures.written (then c.write_text-c.ensures (then c.write_decimal-d.ensures.written (then c.write_text-e.ensures (then c.write_decimal-f.ensures.written c.write_text.ensures)))))
+    then c.write_text-at.ensures (then c.write_decimal-at.ensures.written (then c.write_text-at-2.ensures (then c.write_decimal-at-2.ensures.written (then c.write_text-at-3.ensures (then c.write_decimal-at-3.ensures.written c.write_text.ensures)))))

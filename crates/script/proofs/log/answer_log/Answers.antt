@@ -8,8 +8,8 @@ use Rattle.script.proofs.log.answer_log.Goals as goal
 
 pub answer_last-requires : goal.answer_last-requires
 answer_last-requires c =
-    room_there twin (omega (arith, c.lines_in-lines.ensures, c.if-out-lines.false)) c.run-ran.ensures answer_room c.if-log-read.false
+    room_there twin (omega (arith, c.lines_in.ensures, c.if-out-lines_in.false)) c.run-read.ensures answer_room c.if-log-read.false
 
 pub returns : goal.returns
 returns c =
-    last_answered twin (omega (arith, c.lines_in-lines.ensures, c.if-out-lines.false)) c.run-ran.ensures answer_room c.if-log-read.false refl c.answer_last.ensures
+    last_answered twin (omega (arith, c.lines_in.ensures, c.if-out-lines_in.false)) c.run-read.ensures answer_room c.if-log-read.false refl c.answer_last.ensures

@@ -6,7 +6,9 @@ use Rattle.text.specs.laws.Run.{Did}
 use Rattle.script.proofs.twin.run.Given as goal
 
 abbrev pub invariant-loop-out : goal.invariant-loop-out
-invariant-loop-out l = Did twin (record { lines = l.initial.lines; bus = l.initial.bus; form = l.initial.form }) l.input l.initial.out l.out l.from l.at (record { lines = l.lines; bus = l.bus; form = l.form }) × (l.ok ≡ bus_ok l.bus) × (length l.out ≡ length l.initial.out) × (length l.bus.devices ≡ 8)
+invariant-loop-out l =
+    let bus = l.judged.1.0 in
+    Did twin l.fn.first l.input l.initial.out l.out l.read l.wrote (record { lines = l.lines; bus = bus; form = l.form }) × (l.judged.0 ≡ bus_ok bus) × (length l.out ≡ length l.initial.out) × (length bus.devices ≡ 8)
 
 abbrev pub decreases-loop-out : goal.decreases-loop-out
-decreases-loop-out l = length l.input - l.from
+decreases-loop-out l = length l.input - l.read

@@ -12,10 +12,9 @@ write_line-requires c =
 
 pub returns-clause-written : goal.returns-clause-written
 returns-clause-written c =
-    let w = then c.write_text-a.ensures (then c.write_decimal-b.ensures.written c.write_line.ensures) in
-    w
+    then c.write_text-a.ensures (then c.write_decimal-b.ensures.written (rw c.from.ensures at c.write_line.ensures))
 
 pub returns-clause-upper_bound : goal.returns-clause-upper_bound
 returns-clause-upper_bound c =
-    let w = then c.write_text-a.ensures (then c.write_decimal-b.ensures.written c.write_line.ensures) in
+    let w = then c.write_text-a.ensures (then c.write_decimal-b.ensures.written (rw c.from.ensures at c.write_line.ensures)) in
     omega (arith, w.stop, line_few c.args.register c.args.value [] c.requires.0 c.ranges.value.fits)

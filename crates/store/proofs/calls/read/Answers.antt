@@ -1,38 +1,38 @@
 -- `read`: refused by the shape, where nothing is found, where the buffer is short; else the text.
-use Rattle.std.proofs.Common.{sym, ◌∙◌, arith}
-use Rattle.store.specs.Calls.{bytes}
+use Rattle.std.proofs.Common.{◌≡◌, None, Some, rules, sym, ap, ◌∙◌, arith}
+use Rattle.refusals.specs.Reasons.{number}
+use Rattle.refusals.specs.laws.Reasons.{number_positive}
+use Rattle.store.specs.Calls.{answered, bytes, refused_with}
 use Rattle.store.proofs.laws.Calls.{read_unsound, read_missing, read_short}
-use Rattle.store.proofs.laws.Judged.{found_none, found_at_place, read_is}
-use Rattle.store.proofs.laws.Layout.{ok_long}
+use Rattle.store.proofs.laws.Judged.{shape_is, read_is}
 use Rattle.store.proofs.calls.read.Goals as goal
 
-pub returns-else-is_sound : goal.returns-else-is_sound
-returns-else-is_sound c =
-    rw c.refused.ensures (sym (read_unsound bytes _ _ _ c.args.buffer.now (sym c.is_sound.ensures ∙ c.if-is_sound.false)))
+pub returns-in_err-places : goal.returns-in_err-places
+returns-in_err-places c =
+    let a = c.args in
+    let reason = c.in_err-places.field-0.0 in
+    let s = shape_is a.store.now (number reason) (number_positive reason) c.in_err-places.ensures.code in
+    let e : answered c.from_residual.result a.buffer.now ≡ refused_with a.buffer.now (number reason) = search rules in
+    e ∙ ap (refused_with a.buffer.now) s.1 ∙ sym (read_unsound bytes a.store.now a.table a.version a.buffer.now s.0)
 
-pub held_place-from-requires : goal.held_place-from-requires
-held_place-from-requires c =
-    ok_long _ (sym c.is_sound.ensures ∙ c.if-is_sound.true)
-
-pub returns-then-from-ge-PLACES : goal.returns-then-from-ge-PLACES
-returns-then-from-ge-PLACES c =
-    let ok = sym c.is_sound.ensures ∙ c.if-is_sound.true in
-    rw c.refused-then-from-ge-PLACES.ensures (sym (read_missing bytes _ _ _ c.args.buffer.now ok (found_none c.args.store.now ok c.args.table c.args.version _ c.held_place-from.ensures c.if-from-ge-PLACES.true)))
-
-pub setting_at-requires : goal.setting_at-requires
-setting_at-requires c =
-    (ok_long _ (sym c.is_sound.ensures ∙ c.if-is_sound.true), c.if-from-ge-PLACES.false)
+pub returns-in_err-setting : goal.returns-in_err-setting
+returns-in_err-setting c =
+    let a = c.args in
+    let e : answered c.from_residual-in_err-setting.result a.buffer.now ≡ refused_with a.buffer.now 11 = search rules in
+    let none : c.setting.result ≡ None = search rules in
+    let ok = rw c.in_ok-places.ensures.bytes at c.in_ok-places.places.sound in
+    e ∙ sym (read_missing bytes a.store.now a.table a.version a.buffer.now ok (rw c.in_ok-places.ensures.bytes at (sym c.setting.ensures ∙ none)))
 
 pub returns-then-buffer-n : goal.returns-then-buffer-n
 returns-then-buffer-n c =
-    let store = c.args.store.now in
-    let ok = sym c.is_sound.ensures ∙ c.if-is_sound.true in
-    let there = found_at_place store ok c.args.table c.args.version _ c.held_place-from.ensures c.if-from-ge-PLACES.false in
-    let is = rw (← c.setting_at.ensures) at there in
-    rw c.refused-then-buffer-n.ensures (sym (read_short bytes store c.args.table c.args.version c.args.buffer.now c.setting_at.result ok is (omega (arith, c.write_setting-n.ensures.stop, c.if-buffer-n.true))))
+    let a = c.args in
+    let ok = rw c.in_ok-places.ensures.bytes at c.in_ok-places.places.sound in
+    let there : c.setting.result ≡ Some c.in_ok-setting.setting = search rules in
+    sym (read_short bytes a.store.now a.table a.version a.buffer.now c.in_ok-setting.setting ok (rw c.in_ok-places.ensures.bytes at (sym c.setting.ensures ∙ there)) (omega (arith, c.write_setting-n.ensures.stop, c.if-buffer-n.true)))
 
 pub returns : goal.returns
 returns c =
-    let store = c.args.store.now in
-    let ok = sym c.is_sound.ensures ∙ c.if-is_sound.true in
-    rw c.done.ensures (read_is store ok c.args.table c.args.version _ c.held_place-from.ensures c.args.buffer.now _ _ _ _ _ c.if-from-ge-PLACES.false c.setting_at.ensures c.if-buffer-n.false c.write_setting-n.ensures c.write_text.ensures)
+    let a = c.args in
+    let ok = rw c.in_ok-places.ensures.bytes at c.in_ok-places.places.sound in
+    let there : c.setting.result ≡ Some c.in_ok-setting.setting = search rules in
+    read_is a.store.now a.table a.version a.buffer.now _ _ _ c.in_ok-setting.setting ok (rw c.in_ok-places.ensures.bytes at (sym c.setting.ensures ∙ there)) c.if-buffer-n.false c.write_setting-n.ensures c.copy_from_slice.ensures.after

@@ -1,21 +1,13 @@
--- `is_listed`: no pair before i is the version.
-use Rattle.std.proofs.Common.{sym, ap, ◌∙◌, rules}
-use Rattle.std.specs.Prelude.{◌<◌, not}
-use Rattle.basics.specs.laws.Below.{below_none, below_more, below_fails}
-use Rattle.store.specs.Kept.{pairs, is_pair, is_listed}
+-- `is_listed`: one of the list's pairs is the version.
+use Rattle.std.proofs.Common.{ap, ◌∙◌, not}
+use Rattle.std.proofs.Math.Path.{refl}
+use Rattle.std.proofs.Math.Bool.{and-true}
+use Rattle.basics.specs.laws.Below.{below_alike}
+use Rattle.store.specs.Kept.{pairs, is_listed}
+use Rattle.store.proofs.laws.Places.{chunks_any, pair_at}
 use Rattle.store.proofs.kept.is_listed.Goals as goal
 
-pub loop-i-init : goal.loop-i-init
-loop-i-init c =
-    (search rules, search rules, below_none _)
-
-pub returns-then-is_pair : goal.returns-then-is_pair
+pub returns : goal.returns
 unfolding is_listed
-returns-then-is_pair c =
-    let a = c.args in
-    let h : c.loop-i.i < pairs a.list.now = search rules in
-    ap not (below_fails (λ k. not (is_pair a.list.now a.table a.version k)) c.loop-i.i (pairs a.list.now) h (ap not (sym c.is_pair.ensures ∙ c.if-is_pair.true)))
-
-pub loop-i-preserved : goal.loop-i-preserved
-loop-i-preserved c =
-    (search rules, c.loop-i.invariant.1, below_more _ c.loop-i.i c.loop-i.invariant.2 (ap not (sym c.is_pair.ensures ∙ c.if-is_pair.false)))
+returns c =
+    rw c.as_chunks.ensures.front at c.contains.ensures.value ∙ chunks_any _ 2 (pairs c.args.list.now) c.args.list.now ∙ ap not (below_alike _ _ (pairs c.args.list.now) (λ i h. ap not (rw (pair_at c.args.list.now i h, and-true) refl)))

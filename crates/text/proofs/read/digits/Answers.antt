@@ -1,19 +1,12 @@
--- `digits`: the number so far takes the further digits.
-use Rattle.std.proofs.Common.{sym, ◌∙◌}
-use Rattle.text.proofs.Reading.{digits_end, digits_more, digits_done}
+-- `digits`: what is left of the line is what is left of its end.
+use Rattle.std.proofs.Common.{◌≡◌, ◌∙◌, arith, length, drop-drop}
+use Rattle.text.proofs.Reading.{digits_at, digits_end}
 use Rattle.text.proofs.read.digits.Goals as goal
 
-pub loop-i-preserved : goal.loop-i-preserved
-loop-i-preserved c =
-    let a = c.args in
-    rw c.value.ensures (digits_more a.line.now c.loop-i.n c.loop-i.i c.loop-i-test.true (sym c.takes_digit.ensures ∙ c.if-takes_digit.true) ∙ c.loop-i.invariant)
-
-pub returns-else-takes_digit : goal.returns-else-takes_digit
-returns-else-takes_digit c =
-    let a = c.args in
-    sym (digits_end a.line.now c.loop-i.n c.loop-i.i c.loop-i-test.true (sym c.takes_digit.ensures ∙ c.if-takes_digit.false)) ∙ c.loop-i.invariant
+pub returns-then-not-takes_digit : goal.returns-then-not-takes_digit
+returns-then-not-takes_digit c = grind (arith, digits_at, drop-drop)
 
 pub returns : goal.returns
 returns c =
-    let a = c.args in
-    sym (digits_done a.line.now c.loop-i.n c.loop-i.i c.loop-i-test.false) ∙ c.loop-i.invariant
+    let all : c.loop-i.i ≡ length c.rest_of-rest.result.now = omega arith in
+    rw (← all, ← c.rest_of-rest.ensures) (digits_end _ _ _ _ _ c.rest_of-rest.ensures c.loop-i-test.false ∙ c.loop-i.invariant)
