@@ -48,7 +48,8 @@ fn shape_of(line: &[u8]) -> Shape
     by_letters(byte_at(line, 3), byte_at(line, 4), byte_at(line, 5))
 }
 
-// The numbers of a line of fields, each a key and a number, with nothing behind the last.
+// The numbers of a line of fields, each a key and a number, with nothing behind the last. Compiled into its callers, which know the keys.
+#[inline(always)]
 fn fields<const N: usize>(line: &[u8], keys: &[&[u8]]) -> Option<[u64; N]>
     requires { length keys.now ≡ N }
     ensures { result ≡ fields_of (map (λ k. k.now) keys.now) (Some (rest line.now 0)) }

@@ -52,7 +52,8 @@ fn takes_digit(n: u64, d: u8) -> bool
     n != 0 && n < 100_000_000_000_000 && d.is_ascii_digit()
 }
 
-// Past a key; the number stays.
+// Past a key; the number stays. Compiled into its callers, since where the key is known it is compared at once.
+#[inline(always)]
 #[tactic(auto, using(crate::proofs::Reading::skipped_at), unfolding(crate::specs::Read::key_of))]
 pub fn read_key(line: &[u8], from: Option<Field>, key: &[u8]) -> Option<Field>
     ensures { rest_at line.now result ≡ key_of key.now (rest_at line.now from) }
