@@ -7,6 +7,8 @@ pub mod proved_callers;
 mod read;
 mod write;
 
+pub use read::{Reading, read_setting};
+
 // The values of the chip's writable registers come first, in map order; those behind them are 0.
 #[derive(Clone, Copy, Debug, PartialEq, Eq)]
 pub struct Setting {

@@ -34,7 +34,7 @@ pub struct Place<'a> {
 fn is_zero(bytes: &[u8]) -> bool
     ensures { result ≡ all (λ x. eqb x 0) bytes.now }
 {
-    bytes.iter().fold(true, |zero, &x| zero && x == 0)
+    bytes.iter().fold(true, |zero, &x| zero & (x == 0))
 }
 
 // The bytes of a version.

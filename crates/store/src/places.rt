@@ -47,11 +47,12 @@ impl<'a> Places<'a> {
         Ok(Places { bytes: store })
     }
 
+    // The range takes nothing away: by it the compiler knows how many places there are.
     pub fn places(self) -> &'a [[u8; WIDTH]]
         ensures { result.now ≡ places_of self.entry.bytes.now }
     {
         let bytes = self.bytes;
-        bytes.as_chunks().0
+        bytes[..SIZE].as_chunks().0
     }
 
     // The greatest version of a table, or 0.

@@ -42,7 +42,8 @@ use Rattle.setting.specs.declared.Setting.{Setting}
 abbrev whole : List ℕ → Bool
 whole t = is_end (all_registers (known_chip (chip_in t)) (address_of t))
 
-abbrev judged : Bool → Bool → Bool → Setting → Result Setting Reason
+-- by whether the kind is unknown, the address one that the kind cannot have, and the text not read to its end
+abbrev pub judged : Bool → Bool → Bool → Setting → Result Setting Reason
 judged a b c s = cond a (Err reason.UnknownKind) (cond b (Err reason.WrongAddress) (cond c (Err reason.Malformed) (Ok s)))
 
 judged_is : (a b c : Bool) (s : Setting) → outcome (refuse 1 a ∷ refuse 2 b ∷ refuse 4 c ∷ []) (λ k. Err (reason_of k)) (Ok s) ≡ judged a b c s
