@@ -38,28 +38,15 @@ pub fn wait_at(bus: Bus, dev: usize, duration: Duration) -> Reply
     requires { (dev < 8) × (code_of (place_refusals bus dev) ≡ 0) }
     ensures { result ≡ wait_for_reply bus dev duration }
 {
-    let mut lit = bus.lit;
-    let mut unlit = bus.unlit;
     let a = 16 * dev;
     let e = a + 16;
     let d = bus.devices[dev];
-    match wait_check(d, &lit[a..e], &unlit[a..e], duration) {
-        Ok(()) => {
-            let after = wait(d, duration, &mut lit[a..e], &mut unlit[a..e]);
-            let mut devices = bus.devices;
-            devices[dev] = after;
-            done(
-                0,
-                Bus {
-                    devices,
-                    lit,
-                    unlit,
-                    ..bus
-                },
-            )
-        }
-        Err(reason) => refused_for(bus, reason),
+    if let Err(reason) = wait_check(d, &bus.lit[a..e], &bus.unlit[a..e], duration) {
+        return refused_for(bus, reason);
     }
+    let mut next = bus;
+    next.devices[dev] = wait(d, duration, &mut next.lit[a..e], &mut next.unlit[a..e]);
+    done(0, next)
 }
 
 impl Judged {
@@ -67,10 +54,10 @@ impl Judged {
     pub fn wait_for(&self, dev: u64, duration: Duration) -> Reply
         ensures { result ≡ wait_for_reply self.now.bus dev duration }
     {
-        match place_check(self.ok, self.bus.count, dev) {
-            Ok(()) => wait_at(self.bus, dev as usize, duration),
-            Err(reason) => refused_for(self.bus, reason),
+        if let Err(reason) = place_check(self.ok, self.bus.count, dev) {
+            return refused_for(self.bus, reason);
         }
+        wait_at(self.bus, dev as usize, duration)
     }
 
     fn lit_check(&self, dev: u64, out: u64, duration: Duration) -> Result<(), Reason>

@@ -9,22 +9,18 @@ use bus::{Bus, Event, Judged, Reply};
 use lamp::DriverTicks;
 use refusals::{Reason, or_refused};
 
-// Time and event are refused together, by the least number, and then neither happens. Where the time has no room, the event is judged
-// without it, since it changes no number of an event but 6.
+// Time and event are refused together, by the least number, and then neither happens.
 fn timed(ticks: DriverTicks, judged: Judged, event: Event) -> Reply
     ensures { result ≡ timed_reply ticks judged.bus event }
 {
-    let after = pass(ticks, judged);
-    let reply = after.unwrap_or(judged).step(event);
-    let code = or_refused(reply.code, u64::from(Reason::PastLimit), after.is_none());
+    let mut after = judged;
+    let room = pass(ticks, &mut after);
+    let reply = after.step(event);
+    let code = or_refused(reply.code, u64::from(Reason::PastLimit), !room);
     if code == 0 {
         reply
     } else {
-        Reply {
-            code,
-            value: 0,
-            bus: judged.bus,
-        }
+        bus::refused(judged.bus, code)
     }
 }
 

@@ -1,5 +1,5 @@
 // The time between two stamps, and what it does to the devices of a bus.
-ghost use Rattle.std.specs.Prelude.{◌≡◌, ℕ, ◌-◌, ◌%◌, ◌^◌, ◌<◌, ◌≤◌, not, ◌&&◌, length, is_some, IfSome, IfNone};
+ghost use Rattle.std.specs.Prelude.{◌≡◌, ℕ, ◌-◌, ◌%◌, ◌^◌, ◌<◌, ◌≤◌, not, ◌&&◌, length};
 ghost use Rattle.basics.specs.Below.{all_below};
 ghost use Rattle.totals.specs.Totals.{record_of};
 ghost use Rattle.bus.specs.Devices.{record_at};
@@ -28,55 +28,56 @@ pub fn since(clock: Clock, at: u32) -> DriverTicks
     clock.map_or(DriverTicks(0), |last| elapsed(at, last))
 }
 
-// A driver takes the time if its count and its totals, which are lent, have room; a blinker takes none.
+// A driver takes the time if its count and its totals, which are lent, have room; a blinker takes none. Whether there was room.
 #[tactic(auto, unfolding(totals::specs::Wait::exceeds))]
-fn wait_driver(d: Device, ticks: DriverTicks, lit: &mut [u64], unlit: &mut [u64]) -> Option<Device>
+fn wait_driver(d: &mut Device, ticks: DriverTicks, lit: &mut [u64], unlit: &mut [u64]) -> bool
     requires { (length lit.old ≡ 16) × (length unlit.old ≡ 16) }
-    ensures room { is_some result ≡ fits ticks (record_of d lit.old unlit.old) }
-    ensures after { IfSome result (λ device. record_of device lit.new unlit.new ≡ timed ticks (record_of d lit.old unlit.old)) }
-    ensures left { IfNone result (record_of d lit.new unlit.new ≡ record_of d lit.old unlit.old) }
+    ensures room { result ≡ fits ticks (record_of d.old lit.old unlit.old) }
+    ensures after { record_of d.new lit.new unlit.new ≡ timed ticks (record_of d.old lit.old unlit.old) }
 {
     let time = Duration::Ticks(ticks);
     if !d.chip.is_driver() {
-        Some(d)
-    } else if exceeds(d, lit, unlit, time) {
-        None
-    } else {
-        Some(wait(d, time, lit, unlit))
+        return true;
     }
+    if exceeds(*d, lit, unlit, time) {
+        return false;
+    }
+    *d = wait(*d, time, lit, unlit);
+    true
 }
 
-// Every driver of a bus waits, one after the other, if all have room.
+// Every driver of a bus that has room waits, one after the other. Whether all had room.
 #[tactic(auto, unfolding(crate::specs::Time::time_below, basics::specs::Below::all_below))]
-fn wait_all(ticks: DriverTicks, bus: Bus) -> Option<Bus>
-    requires { bus.count ≤ 8 }
-    ensures room { is_some result ≡ all_below bus.count (λ i. fits ticks (record_at bus i)) }
-    ensures after { IfSome result (λ after. after ≡ time_below ticks bus bus.count) }
+fn wait_all(ticks: DriverTicks, bus: &mut Bus) -> bool
+    requires { (length bus.old.devices ≡ 8) × (bus.old.count ≤ 8) }
+    ensures room { result ≡ all_below bus.old.count (λ i. fits ticks (record_at bus.old i)) }
+    ensures after { bus.new ≡ time_below ticks bus.old bus.old.count }
 {
-    let mut next = bus;
+    let mut room = true;
     // By index: after a zip of iter_mut and chunks_exact_mut (tried) a proof knows no element of what they lent.
     for i in 0..usize::from(bus.count) {
         let start = 16 * i;
         let end = start + 16;
-        next.devices[i] = wait_driver(
-            next.devices[i],
+        room &= wait_driver(
+            &mut bus.devices[i],
             ticks,
-            &mut next.lit[start..end],
-            &mut next.unlit[start..end],
-        )?;
+            &mut bus.lit[start..end],
+            &mut bus.unlit[start..end],
+        );
     }
-    Some(next)
+    room
 }
 
-// The bus once the time has passed, if every driver has room for it; one that is not well formed stays.
+// The time passes where a driver has room for it; a bus that is not well formed stays. Whether every driver had room. That the devices are
+// eight is asked: behind a reference a proof knows the length of an array of numbers alone.
 #[tactic(auto, using(crate::proofs::laws::Alike::below_shape), unfolding(crate::specs::Time::after_time, bus::specs::Devices::bus_ok))]
-pub fn pass(ticks: DriverTicks, judged: Judged) -> Option<Judged>
-    ensures room { is_some result ≡ not (overruns_any ticks judged.bus) }
-    ensures after { IfSome result (λ after. after.bus ≡ after_time ticks judged.bus) }
+pub fn pass(ticks: DriverTicks, judged: &mut Judged) -> bool
+    requires { length judged.old.bus.devices ≡ 8 }
+    ensures room { result ≡ not (overruns_any ticks judged.old.bus) }
+    ensures after { judged.new.bus ≡ after_time ticks judged.old.bus }
 {
     if !judged.ok {
-        return Some(judged);
+        return true;
     }
-    let bus = wait_all(ticks, judged.bus)?;
-    Some(Judged { ok: true, bus })
+    wait_all(ticks, &mut judged.bus)
 }

@@ -1,9 +1,8 @@
 -- A loop over the drivers: what a turn lends, and what it adds.
-use Rattle.std.specs.Prelude.{◌≡◌, ℕ, suc, ◌+◌, ◌-◌, ◌*◌, ◌<◌, Bool, true, false, List, ◌++◌, length, take, drop, get_or, slice_set, refl}
+use Rattle.std.specs.Prelude.{◌≡◌, ℕ, suc, ◌+◌, ◌-◌, ◌*◌, ◌<◌, Bool, ◌&&◌, List, ◌++◌, length, take, drop, get_or, slice_set, refl}
 use Rattle.std.proofs.Common.{sym, ap, ◌∙◌, add-one, arith}
 use Rattle.std.proofs.lemmas.List.{set-get_or}
 use Rattle.basics.specs.Below.{all_below}
-use Rattle.basics.specs.laws.Below.{below_more, below_fails}
 use Rattle.basics.specs.laws.Logic.{holds, fails, tested}
 use Rattle.basics.specs.laws.Parts.{part_long, with_own}
 use Rattle.lamp.specs.declared.DriverTicks.{DriverTicks}
@@ -45,9 +44,10 @@ module _ (ticks : DriverTicks) (b m : Bus) (i : ℕ) (few : i < 8) (lit : length
   hand_is : at_hand ≡ record_at b i
   hand_is = record_lent z m i lit unlit few there ∙ same
 
-  -- it has no room for the time
-  pub turn_fails : (n : ℕ) → i < n → false ≡ fits ticks at_hand → false ≡ all_below n room_at
-  turn_fails n h q = below_fails room_at i n h (ap (fits ticks) (sym hand_is) ∙ sym q)
+  -- whether it has room for the time, and those before it
+  pub turn_room : (before here : Bool) → before ≡ all_below i room_at → here ≡ fits ticks at_hand → (before && here) ≡ all_below (i + 1) room_at
+  unfolding all_below
+  turn_room before here e q = rw (add-one i, e, q ∙ ap (fits ticks) hand_is) refl
 
   more : with_record m i (timed ticks (record_at b i)) ≡ time_below ticks b (suc i)
   unfolding time_below
@@ -57,11 +57,8 @@ module _ (ticks : DriverTicks) (b m : Bus) (i : ℕ) (few : i < 8) (lit : length
         | fails t ↦ rw t (ap (with_record m i) (sym same) ∙ own_record m i lit unlit ∙ so_far)
       ]
 
-  -- it has, and comes back once it has taken the time
-  pub turn_holds : (d : Device) (p q : List ℕ) → all_below i room_at ≡ true → true ≡ fits ticks at_hand → record_of d p q ≡ timed ticks at_hand
-      → (record { phase = m.phase; count = m.count; devices = slice_set m.devices i d; lit = take (16 * i) m.lit ++ (p ++ drop (16 * i + 16 - 16 * i) (drop (16 * i) m.lit)); unlit = take (16 * i) m.unlit ++ (q ++ drop (16 * i + 16 - 16 * i) (drop (16 * i) m.unlit)) } ≡ time_below ticks b (i + 1))
-      × (all_below (i + 1) room_at ≡ true)
-  turn_holds d p q before fit is = (
-    record_back m i few lit unlit d p q _ (timed_long ticks (record_at b i) (part_long 16 i b.lit) (part_long 16 i b.unlit)) (is ∙ ap (timed ticks) hand_is) ∙ more ∙ rw (add-one i),
-    below_more room_at i before (ap (fits ticks) (sym hand_is) ∙ sym fit),
-  )
+  -- it comes back, with the time where it has room
+  pub turn_holds : (d : Device) (p q : List ℕ) → record_of d p q ≡ timed ticks at_hand
+      → record { phase = m.phase; count = m.count; devices = slice_set m.devices i d; lit = take (16 * i) m.lit ++ (p ++ drop (16 * i + 16 - 16 * i) (drop (16 * i) m.lit)); unlit = take (16 * i) m.unlit ++ (q ++ drop (16 * i + 16 - 16 * i) (drop (16 * i) m.unlit)) } ≡ time_below ticks b (i + 1)
+  turn_holds d p q is =
+      record_back m i few lit unlit d p q _ (timed_long ticks (record_at b i) (part_long 16 i b.lit) (part_long 16 i b.unlit)) (is ∙ ap (timed ticks) hand_is) ∙ more ∙ rw (add-one i)

@@ -8,10 +8,11 @@ use Rattle.bus.proofs.laws.Place.{device_answers, position_refused, questions_ab
 use Rattle.bus.proofs.laws.Replies.{turned_by}
 use Rattle.bus.proofs.judged.Judged.ask.Goals as goal
 
-pub returns-in-Ok : goal.returns-in-Ok
-returns-in-Ok c =
+pub returns : goal.returns
+returns c =
     let a = c.args in
-    c.answered.ensures ∙ device_answers a.self.now.bus a.dev a.question _ _ _ (sym (c.in-Ok.ensures a.self.now.bus c.args.self.now.judged refl)) c.device_at.ensures c.answer_of.ensures.code c.answer_of.ensures.value
+    let own = rw c.in_default.is at (c.place_check.ensures a.self.now.bus c.args.self.now.judged refl) in
+    c.answered.ensures ∙ device_answers a.self.now.bus a.dev a.question _ _ _ (sym own) c.device_at.ensures c.answer_of.ensures.code c.answer_of.ensures.value
 
 pub returns-in-Err : goal.returns-in-Err
 unfolding step_reply step_refusals

@@ -9,7 +9,8 @@ use Rattle.bus.proofs.judged.Judged.wait_for.Goals as goal
 
 pub wait_at-requires : goal.wait_at-requires
 wait_at-requires c =
-    let z = sym (c.in-Ok.ensures c.args.self.now.bus c.args.self.now.judged refl) in
+    let own = rw c.in_default.is at (c.place_check.ensures c.args.self.now.bus c.args.self.now.judged refl) in
+    let z = sym own in
     ((position_there c.args.self.now.bus c.args.dev z).2, z)
 
 pub returns-in-Err : goal.returns-in-Err
