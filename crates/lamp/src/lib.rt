@@ -11,6 +11,7 @@ pub mod proved_callers;
 mod unit;
 mod window;
 
+pub use group::Group;
 pub use mode::Mode;
 pub use unit::Unit;
 pub use window::LIMIT;
