@@ -94,11 +94,11 @@ impl Place<'_> {
         }
     }
 
-    // Whether it holds this version of the table.
+    // Whether it holds this version of the table. 0 is none: a search asks that once, of the number that it seeks.
     pub fn is_at(self, table: u64, version: u64) -> bool
         ensures { result ≡ is_at table version self.entry.bytes.now }
     {
-        !self.is_free() && self.version() == version && u64::from(self.table()) == table
+        version != 0 && self.version() == version && u64::from(self.table()) == table
     }
 
     // Whether the chip can have the address, and zeros stand behind the values.
