@@ -6,4 +6,4 @@ use Rattle.lamp.proofs.group.Group.lit_below.Goals as goal
 pub returns : goal.returns
 returns c =
     let h = c.self.invariant in
-    rw (c.individual.ensures, c.duty.ensures, ← c.self.view_is) (from_zero (group_counts h.positive h.whole_period h.whole_on h.within (omega arith)) c.args.x)
+    simp (c.individual.ensures, c.duty.ensures, ← c.self.view_is) (from_zero (group_counts h.positive h.whole_period h.whole_on h.within (omega arith)) c.args.x)
