@@ -94,7 +94,7 @@ impl Place<'_> {
         }
     }
 
-    // Whether it holds this version of the table. 0 is none: a search asks that once, of the number that it seeks.
+    // Whether it holds this version of the table. 0 is none: asked of the number sought, the compiler asks it once a search.
     pub fn is_at(self, table: u64, version: u64) -> bool
         ensures { result ≡ is_at table version self.entry.bytes.now }
     {
